@@ -1,7 +1,7 @@
 -- Whole parts and remainders, all together.
 use mathlib.Core.Path.{_≡_}
 use mathlib.Core.List.{List, [], _∷_}
-use Prim.Native.Nat.{ℕ, _+_, _*_, _/_, _<_, _≤_}
+use Prim.Native.Nat.{ℕ, _+_, _-_, _*_, _/_, _%_, _<_, _≤_}
 use native.Mathlib.Nat.{mul-add, add-mul, div-add-mod', mul-zero, le-of-mul-le-mul-right}
 use native.Mathlib.Omega.{arith}
 use lib.ListN.{length, getD}
@@ -41,3 +41,7 @@ product-le t ws i p h =
 -- and so is the total
 pub total-le : (t : ℕ) (ws : List ℕ) → Passes t ws → t ≤ limit
 total-le t ws p = let m = mul-le t 1 t (sum ws) (omega arith) (p .some) in omega (arith, p .fits)
+
+-- the remainder, without a second division
+pub rest-is : (n s : ℕ) → n - n / s * s ≡ n % s
+rest-is n s = let d = div-add-mod' n s in omega arith

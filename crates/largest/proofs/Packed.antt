@@ -4,7 +4,7 @@ use mathlib.Core.Logic.{_⊎_, inl, inr, ⊎-elim}
 use mathlib.Core.Bool.{Bool, cond, _&&_}
 use mathlib.Core.List.{List, [], _∷_, _++_, map}
 use Prim.Native.Nat.{ℕ, zero, suc, max, _+_, _-_, _*_, _/_, _%_, _^_, _<_, _≤_}
-use native.Mathlib.Nat.{add-mul, mul-add, mul-comm, mod-lt, div-add-mod', two-pow-succ}
+use native.Mathlib.Nat.{add-mul, mul-add, mul-comm, mod-lt, two-pow-succ}
 use native.Mathlib.Numerals.{add-one}
 use native.Mathlib.Omega.{arith}
 use lib.Bits.{bitAnd}
@@ -151,9 +151,6 @@ module _ (t s u : ℕ) (ws : List ℕ) (r : Ready t s u ws) where
         let l = sumBy-take-le (whole t s) ws (i + 1) in
         let b : sumBy (whole t s) ws ≤ t = rw (r .is-sum) (wholes-le t ws (r .passes)) in
         (omega arith, omega arith)
-
-pub rest-is : (n s : ℕ) → n - n / s * s ≡ n % s
-rest-is n s = let d = div-add-mod' n s in omega arith
 
 -- a turn that writes f of a weight at its place
 pub written-more : (f : ℕ → ℕ) (ws old : List ℕ) (i y : ℕ) → i < length ws → length old ≡ length ws → y ≡ f (getD ws i 0) → take i old ≡ map f (take i ws) → take (i + 1) (set old i y) ≡ map f (take (i + 1) ws)

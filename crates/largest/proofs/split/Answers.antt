@@ -7,9 +7,9 @@ use lib.ListN.{length, getD}
 use lib.Seq.{take-all}
 use Rattle.std.specs.shelf.Lists.{sumBy}
 use Rattle.divider.specs.Shares.{whole}
-use Rattle.divider.proofs.Parts.{product-le}
+use Rattle.divider.proofs.Parts.{product-le, rest-is}
 use Rattle.largest.specs.Packing.{packed}
-use Rattle.largest.proofs.Packed.{divisor, packed-fits, left-more, rest-is, written-more}
+use Rattle.largest.proofs.Packed.{divisor, packed-fits, left-more, written-more}
 use Rattle.largest.proofs.split.Needs as need
 
 pub mul-product : need.mul-product
