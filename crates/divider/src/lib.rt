@@ -5,11 +5,9 @@
 //! code over a `D: Divider` is proved once, for every one of them.
 ghost use mathlib.Core.Path.{_≡_};
 ghost use mathlib.Core.List.{List};
-ghost use Prim.Native.Nat.{ℕ, _<_, _≤_};
-ghost use lib.ListN.{length};
+ghost use Prim.Native.Nat.{ℕ};
 ghost use Rattle.std.specs.shelf.Lists.{sum};
-ghost use Rattle.std.specs.Options.{Cases as BySome};
-ghost use Rattle.divider.specs.Questions.{limit, number, Passes, Weighed, Divided};
+ghost use Rattle.divider.specs.Questions.{number, Passes, Weighed, Divided};
 ghost use Rattle.divider.specs.Shares.{Fair};
 
 mod refusal;
@@ -53,21 +51,18 @@ pub trait Divider {
         ensures { λ r. ⌜ Divided total (now (weights .entry)) (meaning (now (self .entry)) total (now (weights .entry))) (now (sheet .entry)) (now (sheet .exit)) r ⌝ };
 }
 
-/// The largest sum of weights, and the largest total times sum, that is divided.
+/// The largest sum of weights, and the largest total times it, that is divided.
 pub const LIMIT: u64 = 0x7fff_ffff_ffff_ffff;
 
-// The sum of the weights, where it is within the limit.
-fn sum_of(weights: &[u64]) -> Option<u64>
-    ensures { λ r. ⌜ BySome r (limit < sum (now (weights .entry))) (λ s. (s ≡ sum (now (weights .entry))) × (s ≤ limit)) ⌝ }
+// The sum of the weights, however large.
+fn sum_of(weights: &[u64]) -> u128
+    ensures { λ r. ⌜ r ≡ sum (now (weights .entry)) ⌝ }
 {
-    let mut sum: u64 = 0;
-    for w in weights {
-        if *w > LIMIT - sum {
-            return None;
-        }
-        sum += *w;
+    let mut sum: u128 = 0;
+    for weight in weights {
+        sum += *weight as u128;
     }
-    Some(sum)
+    sum
 }
 
 /// Puts a divider's questions in their order, and answers the sum of the weights.
@@ -79,15 +74,12 @@ pub fn weigh(total: u64, weights: &[u64], places: usize) -> Result<u64, Refusal>
     if places != weights.len() {
         return Err(Refusal::SheetLength);
     }
-    match sum_of(weights) {
-        None => Err(Refusal::TooLarge),
-        Some(0) => Err(Refusal::NoWeight),
-        Some(sum) => {
-            if total > LIMIT / sum {
-                Err(Refusal::TooLarge)
-            } else {
-                Ok(sum)
-            }
-        }
+    let sum = sum_of(weights);
+    if sum == 0 {
+        return Err(Refusal::NoWeight);
     }
+    if sum > LIMIT as u128 || total as u128 * sum > LIMIT as u128 {
+        return Err(Refusal::TooLarge);
+    }
+    Ok(sum as u64)
 }

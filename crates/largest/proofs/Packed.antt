@@ -1,10 +1,10 @@
 -- The packed sheet, and the turns of the loops over it.
 use mathlib.Core.Path.{_≡_, refl, sym, ap, _∙_}
 use mathlib.Core.Logic.{_⊎_, inl, inr, ⊎-elim}
-use mathlib.Core.Bool.{Bool, cond, _&&_}
+use mathlib.Core.Bool.{Bool, true, false, cond, _&&_}
 use mathlib.Core.List.{List, [], _∷_, _++_, map}
 use Prim.Native.Nat.{ℕ, zero, suc, max, _+_, _-_, _*_, _/_, _%_, _^_, _<_, _≤_}
-use native.Mathlib.Nat.{add-mul, mul-add, mul-comm, mod-lt, two-pow-succ}
+use native.Mathlib.Nat.{add-mul, mul-add, mul-comm, mod-lt, two-pow-succ, lt-of-mul-lt-mul-right}
 use native.Mathlib.Numerals.{add-one}
 use native.Mathlib.Omega.{arith}
 use lib.Bits.{bitAnd}
@@ -12,9 +12,9 @@ use lib.ListN.{length, getD, take, drop, set}
 use lib.Dec.{ltb, leb, eqb}
 use Rattle.std.specs.shelf.Lists.{sum, sumBy, countBy}
 use Rattle.std.proofs.shelf.Sums.{sumBy-cons, sumBy-more, sumBy-take-le, getD-le-sumBy}
-use Rattle.std.proofs.shelf.Lists.{take-more-set, map-more, at-drop-more, append-assoc, drop-set-lt}
-use Rattle.std.proofs.shelf.Bits.{mul-le, div-below, mod-mul-add, and-mask}
-use Rattle.std.proofs.shelf.Tests.{cases-order, le-leb, lt-leb}
+use Rattle.std.proofs.shelf.Lists.{take-more-set, map-more, at-drop-more, at-drop-all, append-assoc, append-nil, drop-set-lt, take-all}
+use Rattle.std.proofs.shelf.Bits.{mul-le, div-below, mod-mul-add, and-mask, pow-add, pow-below}
+use Rattle.std.proofs.shelf.Tests.{cases-order, cases-lt, le-leb, lt-leb}
 use Rattle.std.proofs.shelf.Ways.{tells}
 use Rattle.std.specs.declared.option.Option.the-variants.{None}
 use Rattle.divider.specs.Questions.{Passes, asked}
@@ -22,7 +22,7 @@ use Rattle.divider.specs.Shares.{whole, rest}
 use Rattle.divider.proofs.Asking.{passed}
 use Rattle.divider.proofs.Parts.{wholes-le}
 use Rattle.largest.specs.Largest.{left-over, above, by-remainders}
-use Rattle.largest.specs.Packing.{packed, reached, extra, at-level, unpacked, Divides, Ready}
+use Rattle.largest.specs.Packing.{packed, reached, at-level, raised, share-of, Divides, Ready}
 use Rattle.largest.proofs.Counts.{count-le}
 use Rattle.largest.proofs.Remainders.{from, from-none, from-zero, enough, one-more, given, given-is, Mark}
 
@@ -60,8 +60,8 @@ module _ (a u r q : ℕ) (h : q < u) where
       (λ l. le-leb (a * u) (r * u + q) (omega arith) ∙ sym (le-leb a r (omega arith))))
       (lies a u r q h)
 
-  same-extra : (n : ℕ) → extra u (a * u) n (r * u + q) ≡ one-more a n r
-  same-extra n =
+  same-level : at-level u (a * u) (r * u + q) ≡ eqb r a
+  same-level =
       ⊎-elim
       (λ (l : (r < a) × (r * u + q < a * u)). grind (arith, tells))
       (⊎-elim
@@ -69,13 +69,34 @@ module _ (a u r q : ℕ) (h : q < u) where
       (λ (l : (a < r) × (a * u + u ≤ r * u + q)). grind (arith, tells)))
       (lies a u r q h)
 
-  same-level : at-level u (a * u) (r * u + q) ≡ cond (eqb r a) 1 0
-  same-level =
+  -- the share that it makes, where c was added to it
+  share-kept : (c d : ℕ) (b : Bool) → c ≡ 0 → leb (a * u + u) (r * u + q) ≡ b → cond b 1 0 ≡ d → share-of u (a * u + u) (r * u + q + c) ≡ q + d
+  share-kept c d b e t f =
+      let z : r * u + q + 0 ≡ r * u + q = omega arith in
+      let m = mod-mul-add r u q h in
+      rw (e, z, m, t, f)
+
+  share-raised : (c : ℕ) → c ≡ u → a * u ≤ r * u + q → share-of u (a * u + u) (r * u + q + c) ≡ q + 1
+  share-raised c e l =
+      let n = add-mul r 1 u in
+      let z : r * u + q + u ≡ (r + 1) * u + q = omega arith in
+      let m = mod-mul-add (r + 1) u q h in
+      let t = le-leb (a * u + u) ((r + 1) * u + q) (omega arith) in
+      rw (e, z, m, t)
+
+  same-share : (n : ℕ) → share-of u (a * u + u) (r * u + q + cond (at-level u (a * u) (r * u + q) && ltb 0 n) u 0) ≡ q + one-more a n r
+  same-share n =
       ⊎-elim
-      (λ (l : (r < a) × (r * u + q < a * u)). grind (arith, tells))
+      (λ (l : (r < a) × (r * u + q < a * u)). share-kept _ (one-more a n r) false (grind (arith, tells)) (lt-leb (a * u + u) (r * u + q) (omega arith)) (grind (arith, tells)))
       (⊎-elim
-      (λ (l : (r ≡ a) × (a * u ≤ r * u + q) × (r * u + q < a * u + u)). grind (arith, tells))
-      (λ (l : (a < r) × (a * u + u ≤ r * u + q)). grind (arith, tells)))
+      (λ (l : (r ≡ a) × (a * u ≤ r * u + q) × (r * u + q < a * u + u)).
+      ⊎-elim
+      (λ (k : 0 < n).
+      let d : one-more a n r ≡ 1 = grind (arith, tells) in
+      rw d (share-raised _ (grind (arith, tells)) (l .1)))
+      (λ (k : n ≤ 0). share-kept _ (one-more a n r) false (grind (arith, tells)) (lt-leb (a * u + u) (r * u + q) (l .2)) (grind (arith, tells)))
+      (cases-lt 0 n))
+      (λ (l : (a < r) × (a * u + u ≤ r * u + q)). share-kept _ (one-more a n r) true (grind (arith, tells)) (le-leb (a * u + u) (r * u + q) (l .1)) (grind (arith, tells))))
       (lies a u r q h)
 
 module _ (t s u : ℕ) (some : 0 < s) (over : t < u) where
@@ -90,16 +111,15 @@ module _ (t s u : ℕ) (some : 0 < s) (over : t < u) where
       let i = reached-is a ws (omega arith) in
       omega arith
 
-  pub unpacked-is : (a n : ℕ) (ws : List ℕ) → sum ws ≤ s → unpacked u (a * u) n (map (packed t s u) ws) ≡ given t s a n ws
-  unpacked-is a n [] l = refl
-  unpacked-is a n (w ∷ ws) l =
+  pub shares-are : (a n : ℕ) (ws : List ℕ) → sum ws ≤ s → map (share-of u (a * u + u)) (raised u (a * u) n (map (packed t s u) ws)) ≡ given t s a n ws
+  shares-are a n [] l = refl
+  shares-are a n (w ∷ ws) l =
       let z = sumBy-cons (λ x. x) w ws in
       let q = whole-le t s w some (omega arith) in
-      let m = mod-mul-add (rest t s w) u (whole t s w) (omega arith) in
-      let x = same-extra a u (rest t s w) (whole t s w) (omega arith) n in
+      let x = same-share a u (rest t s w) (whole t s w) (omega arith) n in
       let y = same-level a u (rest t s w) (whole t s w) (omega arith) in
-      let i = unpacked-is a (n - cond (eqb (rest t s w) a) 1 0) ws (omega arith) in
-      rw (m, x, y, i)
+      let i = shares-are a (n - cond (eqb (rest t s w) a) 1 0) ws (omega arith) in
+      rw (x, y, i)
 
 -- what the code has before it cuts, and after
 module _ (t s u : ℕ) (ws : List ℕ) (r : Ready t s u ws) where
@@ -119,15 +139,15 @@ module _ (t s u : ℕ) (ws : List ℕ) (r : Ready t s u ws) where
       let z = from-zero t s ws in
       omega arith
 
-  pub unpacked-shares : (a n : ℕ) → Divides u (map (packed t s u) ws) (left-over t s ws) a n → unpacked u (a * u) n (map (packed t s u) ws) ≡ by-remainders t ws
-  unpacked-shares a n d =
+  pub shares-by : (a n : ℕ) → Divides u (map (packed t s u) ws) (left-over t s ws) a n → map (share-of u (a * u + u)) (raised u (a * u) n (map (packed t s u) ws)) ≡ by-remainders t ws
+  shares-by a n d =
       let e = reached-is t s u divisor (r .over) a ws within in
       let f = reached-is t s u divisor (r .over) (a + 1) ws within in
       let g : from t s (a + 1) ws ≡ above t s a ws = rw add-one refl in
       let k : n ≡ left-over t s ws - above t s a ws = omega (arith, d .remains) in
       let m : Mark t s ws (left-over t s ws) a = record { low = omega (arith, d .enough); high = omega (arith, d .served) } in
       let m′ = rw (r .is-sum) at m in
-      unpacked-is t s u divisor (r .over) a n ws within ∙ rw (k, r .is-sum) (given-is t ws a m′)
+      shares-are t s u divisor (r .over) a n ws within ∙ rw (k, r .is-sum) (given-is t ws a m′)
 
   -- the numbers at a place
   module _ (i : ℕ) (h : i < length ws) where
@@ -164,29 +184,44 @@ reached-falls u a xs =
     let m = add-mul a 1 u in
     count-le (λ x. leb ((a + 1) * u) x) (λ x. leb (a * u) x) (λ x b. grind (arith, tells)) xs
 
--- a turn that turns a packed number into a share, and the units that it leaves
-pub handed-more : (u v n m y : ℕ) (xs ys : List ℕ) (i : ℕ) → i < length xs → y ≡ getD xs i 0 % u + extra u v n (getD xs i 0) → m ≡ n - at-level u v (getD xs i 0) → take i xs ++ unpacked u v n (drop i xs) ≡ ys → take (i + 1) (set xs i y) ++ unpacked u v m (drop (i + 1) (set xs i y)) ≡ ys
-handed-more u v n m y xs ys i h e f inv =
+-- a loop that turns a list into F of it, place by place: a turn, and the end
+pub turn : (F G : List ℕ → List ℕ) (y : ℕ) (xs ys : List ℕ) (i : ℕ) → i < length xs → F (getD xs i 0 ∷ drop (i + 1) xs) ≡ y ∷ G (drop (i + 1) xs) → take i xs ++ F (drop i xs) ≡ ys → take (i + 1) (set xs i y) ++ G (drop (i + 1) (set xs i y)) ≡ ys
+turn F G y xs ys i h e inv =
     let p = take-more-set xs i y h in
     let l : i < i + 1 = omega arith in
     let k = drop-set-lt (i + 1) xs i y l in
-    let d : unpacked u v n (drop i xs) ≡ (getD xs i 0 % u + extra u v n (getD xs i 0)) ∷ unpacked u v (n - at-level u v (getD xs i 0)) (drop (i + 1) xs) = at-drop-more (unpacked u v n) xs i 0 h in
-    let q = append-assoc (take i xs) (y ∷ []) (unpacked u v m (drop (i + 1) xs)) in
+    let d = at-drop-more F xs i 0 h in
+    let q = append-assoc (take i xs) (y ∷ []) (G (drop (i + 1) xs)) in
     cc
 
--- the three ways of that turn
-pub extra-over : (u v n x : ℕ) → v + u ≤ x → (1 ≡ extra u v n x) × (n ≡ n - at-level u v x)
-extra-over u v n x h = (grind (arith, tells), grind (arith, tells))
+pub turned : (F : List ℕ → List ℕ) (xs ys : List ℕ) (i : ℕ) → length xs ≤ i → F [] ≡ [] → take i xs ++ F (drop i xs) ≡ ys → xs ≡ ys
+turned F xs ys i h e inv =
+    let t = take-all i xs h in
+    let d = at-drop-all F xs i h in
+    let a = append-nil xs in
+    cc
 
-pub extra-level : (u v n x : ℕ) → x < v + u → v ≤ x → 0 < n → (1 ≡ extra u v n x) × (n - 1 ≡ n - at-level u v x)
-extra-level u v n x h l k = (grind (arith, tells), grind (arith, tells))
+-- the number that a turn writes, and the units that it leaves
+pub raised-turn : (u v n x : ℕ) (xs : List ℕ) → v ≤ x → x < v + u → (n ≡ 0 → ⊥) → raised u v n (x ∷ xs) ≡ (x + u) ∷ raised u v (n - 1) xs
+raised-turn u v n x xs l h k =
+    let c : _≡_ {A = ℕ} (cond (at-level u v x && ltb 0 n) u 0) u = grind (arith, tells) in
+    let d : n - cond (at-level u v x) 1 0 ≡ n - 1 = grind (arith, tells) in
+    rw (c, d)
 
-pub extra-none : (u v n x : ℕ) → x < v + u → ((v ≤ x) × (n ≤ 0)) ⊎ (x < v) → (0 ≡ extra u v n x) × (n ≡ n - at-level u v x)
-extra-none u v n x h e =
-    ⊎-elim
-    (λ (d : (v ≤ x) × (n ≤ 0)). (grind (arith, tells), grind (arith, tells)))
-    (λ (d : x < v). (grind (arith, tells), grind (arith, tells)))
-    e
+pub kept-turn : (u v n x : ℕ) (xs : List ℕ) → ((v ≤ x) × (v + u ≤ x)) ⊎ (x < v) → raised u v n (x ∷ xs) ≡ x ∷ raised u v n xs
+kept-turn u v n x xs e =
+    let b : at-level u v x ≡ false = ⊎-elim (λ (d : (v ≤ x) × (v + u ≤ x)). grind (arith, tells)) (λ (d : x < v). grind (arith, tells)) e in
+    let z : x + 0 ≡ x = omega arith in
+    let y : n - 0 ≡ n = omega arith in
+    rw (b, z, y)
+
+-- no spare unit raises nothing
+pub raised-none : (u v : ℕ) (xs : List ℕ) → raised u v 0 xs ≡ xs
+raised-none u v [] = refl
+raised-none u v (x ∷ xs) =
+    let e : x + cond (at-level u v x && ltb 0 0) u 0 ≡ x = grind (arith, tells) in
+    let f : 0 - cond (at-level u v x) 1 0 ≡ 0 = omega arith in
+    rw (e, f, raised-none u v xs)
 
 -- where the bisection ends, the number below the upper bound is the mark
 pub mark-below : (u : ℕ) (xs : List ℕ) (left served low high : ℕ) → low < high → left ≤ reached u low xs → served ≡ reached u high xs → served ≤ left → (left ≤ served) ⊎ (high - low ≤ 1) → Divides u xs left (high - 1) (left - served)
@@ -218,3 +253,19 @@ pub ready : (t s u n : ℕ) (ws : List ℕ) → (asked t ws n ≡ None) × (s �
 ready t s u n ws w k l h =
     let p = passed t ws n (w .0) in
     record { is-sum = w .1; passes = p; over = omega arith; fits = rw (w .1) (unit-fits t u ws p (k .0) (k .1) h) }
+
+-- above every packed number there is room for two units more
+pub room : (s u a : ℕ) → a < s → s * u < 2 ^ 64 → (k : ℕ) × (u ≡ 2 ^ k) → u < 2 ^ 64 → a * u + u + u ≤ 2 ^ 64
+room s u a h f p l =
+    let k = p .0 in
+    ⊎-elim
+    (λ (b : k < 65).
+    let e : 2 ^ (64 - k) * u ≡ 2 ^ 64 = ap (λ n. 2 ^ (64 - k) * n) (p .1) ∙ sym (pow-add 2 (64 - k) k) ∙ ap (λ n. 2 ^ n) (let z : 64 - k + k ≡ 64 = omega arith in z) in
+    let m = mul-le (a + 1) u s u (omega arith) (omega arith) in
+    let q : (a + 1) * u < 2 ^ (64 - k) * u = omega arith in
+    let r : a + 2 ≤ 2 ^ (64 - k) = omega (arith, lt-of-mul-lt-mul-right u q) in
+    let n = mul-le (a + 2) u (2 ^ (64 - k)) u r (omega arith) in
+    let o = add-mul a 2 u in
+    omega arith)
+    (λ (b : 65 ≤ k). let g = pow-below 64 k (omega arith) in absurd (omega (arith, p .1)))
+    (cases-lt k 65)

@@ -1,6 +1,6 @@
 -- What the sheet holds on the way to the shares.
 use mathlib.Core.Path.{_≡_}
-use mathlib.Core.Bool.{cond, _&&_}
+use mathlib.Core.Bool.{Bool, cond, _&&_}
 use mathlib.Core.List.{List, [], _∷_}
 use Prim.Native.Nat.{ℕ, _+_, _-_, _*_, _%_, _^_, _<_, _≤_}
 use lib.Dec.{ltb, leb}
@@ -16,19 +16,19 @@ packed total all unit weight = rest total all weight * unit + whole total all we
 abbrev pub reached : ℕ → ℕ → List ℕ → ℕ
 reached unit a sheet = countBy (λ x. leb (a * unit) x) sheet
 
--- One more for a packed number a unit or more above the level, or at the level while there are spare units.
-abbrev pub extra : ℕ → ℕ → ℕ → ℕ → ℕ
-extra unit level spare x = cond (leb (level + unit) x) 1 (cond (leb level x && ltb 0 spare) 1 0)
-
 -- Whether a packed number is at the level: at it or above by less than a unit.
-abbrev pub at-level : ℕ → ℕ → ℕ → ℕ
-at-level unit level x = cond (leb level x && ltb x (level + unit)) 1 0
+abbrev pub at-level : ℕ → ℕ → ℕ → Bool
+at-level unit level x = leb level x && ltb x (level + unit)
 
--- The shares that a level and spare units make of the packed numbers.
-abbrev pub unpacked : ℕ → ℕ → ℕ → List ℕ → List ℕ
-unpacked unit level spare [] = []
-unpacked unit level spare (x ∷ xs) =
-    (x % unit + extra unit level spare x) ∷ unpacked unit level (spare - at-level unit level x) xs
+-- The packed numbers, of which the first spare ones at the level are raised by a unit.
+abbrev pub raised : ℕ → ℕ → ℕ → List ℕ → List ℕ
+raised unit level spare [] = []
+raised unit level spare (x ∷ xs) =
+    (x + cond (at-level unit level x && ltb 0 spare) unit 0) ∷ raised unit level (spare - cond (at-level unit level x) 1 0) xs
+
+-- The share of a packed number: its whole part, and one more where the number is at least above.
+abbrev pub share-of : ℕ → ℕ → ℕ → ℕ
+share-of unit above x = x % unit + cond (leb above x) 1 0
 
 -- The mark at which the units that are left run out: all above it are served, and the spare ones at it.
 pub record Divides (unit : ℕ) (sheet : List ℕ) (left mark spare : ℕ) : Type 0 where

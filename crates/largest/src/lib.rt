@@ -12,7 +12,7 @@ ghost use lib.Dec.{leb};
 ghost use lib.ListN.{length};
 ghost use Rattle.std.specs.shelf.Lists.{countBy};
 ghost use Rattle.largest.specs.Largest.{left-over, by-remainders};
-ghost use Rattle.largest.specs.Packing.{packed, reached, unpacked, Ready, Divides};
+ghost use Rattle.largest.specs.Packing.{packed, reached, raised, share-of, Ready, Divides};
 use divider::Divider;
 use divider::Refusal;
 use divider::weigh;
@@ -77,26 +77,33 @@ fn cut_at(unit: u64, sum: u64, sheet: &[u64], left: u64) -> Cut
     }
 }
 
-// Turns the packed numbers into shares: the whole parts, with one more for each remainder
-// above the mark and for the first spare ones at it.
-fn hand_out(unit: u64, cut: Cut, sheet: &mut [u64])
-    requires { ⌜ ((k : ℕ) × (unit ≡ 2 ^ k)) ⌝ ∗ ⌜ (cut .mark + 1) * unit < 2 ^ 64 ⌝ ∗ ⌜ unit < 2 ^ 64 ⌝ }
-    ensures { λ _. ⌜ now (sheet .exit) ≡ unpacked unit (cut .mark * unit) (cut .spare) (now (sheet .entry)) ⌝ }
+// Raises the first spare numbers at the level by a unit, so that they are served too.
+fn raise(unit: u64, level: u64, spare: u64, sheet: &mut [u64])
+    requires { ⌜ level + unit + unit ≤ 2 ^ 64 ⌝ }
+    ensures { λ _. ⌜ now (sheet .exit) ≡ raised unit level spare (now (sheet .entry)) ⌝ }
 {
-    let level = cut.mark * unit;
     let above = level + unit;
-    let mut spare = cut.spare;
+    let mut units = spare;
     for i in 0..sheet.len() {
-        let both = sheet[i];
-        let whole = both & (unit - 1);
-        if both >= above {
-            sheet[i] = whole + 1;
-        } else if both >= level && spare > 0 {
-            sheet[i] = whole + 1;
-            spare -= 1;
-        } else {
-            sheet[i] = whole;
+        if units == 0 {
+            return;
         }
+        let both = sheet[i];
+        if both >= level && both < above {
+            sheet[i] = both + unit;
+            units -= 1;
+        }
+    }
+}
+
+// Turns the packed numbers into shares.
+fn unpack(unit: u64, above: u64, sheet: &mut [u64])
+    requires { ⌜ ((k : ℕ) × (unit ≡ 2 ^ k)) ⌝ }
+    ensures { λ _. ⌜ now (sheet .exit) ≡ map (share-of unit above) (now (sheet .entry)) ⌝ }
+{
+    for x in sheet.iter_mut() {
+        let whole = *x & (unit - 1);
+        *x = if *x >= above { whole + 1 } else { whole };
     }
 }
 
@@ -113,7 +120,9 @@ pub impl Divider for LargestRemainder as LargestRemainderDivider {
         let unit = (total + 1).next_power_of_two();
         let left = split(total, sum, unit, weights, sheet);
         let cut = cut_at(unit, sum, sheet, left);
-        hand_out(unit, cut, sheet);
+        let level = cut.mark * unit;
+        raise(unit, level, cut.spare, sheet);
+        unpack(unit, level + unit, sheet);
         Ok(())
     }
 }
