@@ -54,7 +54,7 @@ by-figures words rest rule NoTotal n d f = absurd f
 by-figures words rest rule (NotAFigure word) n d f = (rule, (n, rw d at f))
 by-figures words rest rule (OutOfRange word) n d f = (rule, (n, rw d at f))
 by-figures words rest rule (Division e) n d f = absurd f
-by-figures words rest rule NoMemory n d f = tt
+by-figures words rest rule NoMemory n d f = (rule, n)
 
 -- a request that is read
 pub by-table : (words : List (List ℕ)) (rule : Rule) (total : ℕ) (weights : List ℕ) (r : Result (String Global) Fault) → words ≡ name rule ∷ (decimal total ∷ map decimal weights) → Answers total weights (λ text. string-bytes text ≡ table total weights (by-rule rule total weights)) r → Answered words r
@@ -64,7 +64,7 @@ by-table words rule total weights (Err NoTotal) e a = absurd a
 by-table words rule total weights (Err (NotAFigure word)) e a = absurd a
 by-table words rule total weights (Err (OutOfRange word)) e a = absurd a
 by-table words rule total weights (Err (Division d)) e a = (rule, total, weights, (e, a))
-by-table words rule total weights (Err NoMemory) e a = tt
+by-table words rule total weights (Err NoMemory) e a = (rule, ap (λ ws. getD ws 0 []) e)
 
 -- the figures of a request: the total, and the weights as a part of the slice
 pub total-first : (figures part : List ℕ) (n total : ℕ) → eqb n 0 ≡ false → n ≡ length figures → total ≡ getD figures 0 total → part ≡ figures → figures ≡ total ∷ take (n - 1) (drop 1 part)

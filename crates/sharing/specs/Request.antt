@@ -84,4 +84,4 @@ Answered words (Err (OutOfRange word)) =
     (rule : Rule) × ((getD words 0 [] ≡ name rule) × FirstBad (drop 1 words) word unread.OutOfRange)
 Answered words (Err (Division e)) =
     (rule : Rule) × (total : ℕ) × (weights : List ℕ) × (Asks words rule total weights × (asked total weights (length weights) ≡ Some e))
-Answered words (Err NoMemory) = Unit {0}
+Answered words (Err NoMemory) = (rule : Rule) × (getD words 0 [] ≡ name rule)

@@ -64,4 +64,4 @@ Answers total weights P (Err NoTotal) = ⊥
 Answers total weights P (Err (NotAFigure word)) = ⊥
 Answers total weights P (Err (OutOfRange word)) = ⊥
 Answers total weights P (Err (Division e)) = asked total weights (length weights) ≡ Some e
-Answers total weights P (Err NoMemory) = Unit {0}
+Answers total weights P (Err NoMemory) = asked total weights (length weights) ≡ None

@@ -10,6 +10,8 @@ ghost use Rattle.sharing.specs.declared.fault.Fault.the-variants.{Division, No
 ghost use lib.Chars.{codes};
 ghost use Rattle.std.specs.shelf.Lists.{sumBy};
 ghost use Rattle.divider.specs.Shares.{whole, rest};
+ghost use Rattle.divider.specs.Questions.{asked};
+ghost use Rattle.std.specs.declared.option.Option.the-variants.{None};
 ghost use Rattle.sharing.specs.Table.{by-rule, four, row, lines, table, Ready, Answers};
 use divider::Divider;
 use divider::Refusal;
@@ -79,7 +81,14 @@ pub impl From<fmt::Error> for Fault as FmtFault {
 }
 
 // Appends a line of the table.
-fn write_row(text: &mut String, place: usize, weight: u64, whole: u64, rest: u64, share: u64) -> fmt::Result
+fn write_row(
+    text: &mut String,
+    place: usize,
+    weight: u64,
+    whole: u64,
+    rest: u64,
+    share: u64,
+) -> fmt::Result
     ensures { λ r. ⌜ made r (λ _. string-bytes (now (text .exit)) ≡ string-bytes (now (text .entry)) ++ row place weight whole rest share) ⌝ }
 {
     write!(text, "{place},{weight},{whole},{rest},{share}\n")
@@ -123,6 +132,7 @@ fn shares_of<D: Divider>(
     total: u64,
     weights: &[u64],
 ) -> Result<Vec<u64>, Fault>
+    requires { ⌜ asked total (now weights) (length (now weights)) ≡ None ⌝ }
     ensures { λ r. ⌜ Answers total (now (weights .entry)) (λ sheet. vec-items sheet ≡ D·Divider .meaning (now (divider .entry)) total (now (weights .entry))) r ⌝ }
 {
     let mut sheet = vec![in heap; 0; weights.len()]?;

@@ -9,7 +9,7 @@ use Rattle.std.specs.declared.option.Option.the-variants.{Some, None}
 use Rattle.std.specs.declared.result.Result.{Result}
 use Rattle.std.specs.declared.result.Result.the-variants.{Ok, Err}
 use Rattle.divider.specs.declared.refusal.Refusal.{Refusal}
-use Rattle.divider.specs.declared.refusal.Refusal.the-variants.{NoWeight}
+use Rattle.divider.specs.declared.refusal.Refusal.the-variants.{NoWeight, TooLarge}
 use Rattle.divider.specs.Questions.{asked}
 use Rattle.sharing.specs.declared.rule.Rule.{Rule}
 use Rattle.sharing.specs.declared.rule.Rule.the-variants.{Largest, Running}
@@ -37,6 +37,9 @@ divisions =
     ∷ record { rule = Largest; total = 101; weights = 0 ∷ 0 ∷ []; answer = Err NoWeight }
     ∷ record { rule = Running; total = 101; weights = 0 ∷ 0 ∷ []; answer = Err NoWeight }
     ∷ record { rule = Largest; total = 97; weights = 51 ∷ 30 ∷ 20 ∷ []; answer = Ok (49 ∷ 29 ∷ 19 ∷ []) }
+    ∷ record { rule = Largest; total = 10; weights = 1 ∷ 1 ∷ 1 ∷ 1 ∷ []; answer = Ok (3 ∷ 3 ∷ 2 ∷ 2 ∷ []) }
+    ∷ record { rule = Running; total = 1; weights = 3 ∷ 2 ∷ []; answer = Ok (0 ∷ 1 ∷ []) }
+    ∷ record { rule = Largest; total = 9223372036854775807; weights = 1 ∷ 1 ∷ []; answer = Err TooLarge }
     ∷ record { rule = Largest; total = 20; weights = 49 ∷ 20 ∷ 9 ∷ []; answer = Ok (13 ∷ 5 ∷ 2 ∷ []) }
     ∷ []
 

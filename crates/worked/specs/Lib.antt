@@ -1,1 +1,2 @@
 pub mod Divisions
+pub mod Transfers

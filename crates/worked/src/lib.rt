@@ -3,17 +3,18 @@
 //! The table of them stands in specs/, and is proved of the same definitions
 //! that the contracts of the dividers cite; the tests run the code on it.
 ghost use Rattle.worked.specs.Divisions.{All-hold};
+ghost use Rattle.worked.specs.Transfers.{Book-holds};
 use divider::Divider;
 use divider::Refusal;
 use divider::RefusalPartialEq;
 use sharing::Rule;
 use sharing::RuleDivider;
 
-/// Every worked division comes out as the table says.
-pub fn divisions_hold()
-    ensures { λ _. ⌜ All-hold ⌝ }
-{
-}
+/// Every worked division, transfer and charge comes out as the table says.
+pub fn cases_hold()
+    ensures divisions { λ _. ⌜ All-hold ⌝ }
+    ensures book { λ _. ⌜ Book-holds ⌝ }
+{}
 
 #[cfg(test)]
 mod tests {

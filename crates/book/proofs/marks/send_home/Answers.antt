@@ -1,0 +1,13 @@
+use Rattle.std.proofs.shelf.Tests.{lt-leb}
+use native.Mathlib.Omega.{arith}
+use Prim.Native.Nat.{_+_}
+use mathlib.Core.Path.{refl}
+use Rattle.register.proofs.Change.{kept-same}
+use Rattle.book.specs.Customers.{key}
+use Rattle.book.specs.Marks.{most-mark}
+use Rattle.book.proofs.marks.send_home.Needs as need
+
+pub returns-then-mark-gt-MOST-MARK : need.returns-then-mark-gt-MOST-MARK
+returns-then-mark-gt-MOST-MARK c =
+    let t = lt-leb (c .args .giver .mark + c .args .giver .transit) most-mark (c .if-mark-gt-MOST-MARK .taken) in
+    record { answer = rw t refl; after = rw t refl; kept = kept-same key (c .args .customers .now) }

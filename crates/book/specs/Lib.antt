@@ -1,0 +1,10 @@
+pub mod Answers
+pub mod Sides
+pub mod Books
+pub mod Customers
+pub mod Marks
+pub mod Lines
+pub mod Rates
+pub mod Weights
+pub mod Written
+pub mod Charges

@@ -1,0 +1,11 @@
+pub mod Asked
+pub mod Near
+pub mod Written
+pub mod Marks
+pub mod Founding
+pub mod Rates
+pub mod Pools
+pub mod Lines
+pub mod Places
+pub mod Charges
+pub mod Law
