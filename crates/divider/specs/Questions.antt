@@ -44,7 +44,7 @@ abbrev pub Weighed : ℕ → List ℕ → ℕ → Result ℕ Refusal → Type 0
 Weighed total weights places (Ok all) = (asked total weights places ≡ None) × (all ≡ sum weights)
 Weighed total weights places (Err e) = asked total weights places ≡ Some e
 
--- What a division leaves on the sheet: the shares, or, beside the first question that fails, all as it was.
+-- What a division answers and leaves on the sheet: the shares, or the first question that fails and the sheet as it was.
 abbrev pub Divided : ℕ → List ℕ → List ℕ → List ℕ → List ℕ → Result Unit Refusal → Type 0
 Divided total weights shares old new (Ok _) = (asked total weights (length old) ≡ None) × (new ≡ shares)
 Divided total weights shares old new (Err e) = (asked total weights (length old) ≡ Some e) × (new ≡ old)

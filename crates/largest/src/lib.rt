@@ -77,7 +77,7 @@ fn cut_at(unit: u64, sum: u64, sheet: &[u64], left: u64) -> Cut
     }
 }
 
-// Raises the first spare numbers at the level by a unit, so that they are served too.
+// Raises the first `spare` numbers at the level by a unit, so that they are served too.
 fn raise(unit: u64, level: u64, spare: u64, sheet: &mut [u64])
     requires { ⌜ level + unit + unit ≤ 2 ^ 64 ⌝ }
     ensures { λ _. ⌜ now (sheet .exit) ≡ raised unit level spare (now (sheet .entry)) ⌝ }

@@ -29,7 +29,7 @@ by-rule Running = by-running
 abbrev pub four : ℕ → ℕ → ℕ → ℕ → List ℕ
 four a b c d = decimal a ++ (44 ∷ (decimal b ++ (44 ∷ (decimal c ++ (44 ∷ (decimal d ++ (10 ∷ [])))))))
 
--- Five of them.
+-- Five figures, likewise.
 abbrev pub row : ℕ → ℕ → ℕ → ℕ → ℕ → List ℕ
 row a b c d e = decimal a ++ (44 ∷ four b c d e)
 
@@ -42,7 +42,7 @@ line total weights shares k =
 abbrev pub lines : ℕ → List ℕ → List ℕ → ℕ → List ℕ
 lines total weights shares n = joined (line total weights shares) (counting 0 n)
 
--- Under the columns, in the place of a place, the word sum.
+-- The sums of the columns, with the word sum where the other lines have their place.
 abbrev pub sum-line : ℕ → List ℕ → List ℕ → List ℕ
 sum-line total weights shares =
     codes "sum," ++ four (sum weights) (sumBy (whole total (sum weights)) weights) (sumBy (rest total (sum weights)) weights) (sum shares)

@@ -5,6 +5,6 @@
 pub enum Rule {
     /// `largest`: the odd units to the largest remainders.
     Largest,
-    /// `running`: the odd units as the running sums give them.
+    /// `running`: the odd units where the running sums step up.
     Running,
 }

@@ -44,6 +44,6 @@ range letter field = cond (ltb field 2 || ltb 11 field) none (getD (getD table (
 abbrev pub in-range : Letter → ℕ → ℕ → Bool
 in-range letter field figure = leb (range letter field .0) figure && leb figure (range letter field .1)
 
--- The same as a fact.
+-- A figure lies between the lowest and the highest.
 abbrev pub Within : ℕ × ℕ → ℕ → Type 0
 Within r figure = (r .0 ≤ figure) × (figure ≤ r .1)

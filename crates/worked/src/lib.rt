@@ -20,6 +20,9 @@ pub fn cases_hold()
 mod tests {
     use super::*;
     use divider::RefusalDebug;
+    use sharing::answer;
+    use std::alloc::AllocError;
+    use std::alloc::Global;
     use std::test::*;
 
     // Divides by a rule, and compares the shares.
@@ -42,5 +45,52 @@ mod tests {
         let mut sheet = [7, 7];
         check(Rule::Largest.divide(101, &[0, 0], &mut sheet) == Err(Refusal::NoWeight))?;
         check(sheet[0] == 7 && sheet[1] == 7)
+    }
+
+    // The request of these words.
+    fn request(heap: Global, words: &[&str]) -> Result<Vec<String>, AllocError> {
+        let mut request = Vec::new(heap);
+        for word in words {
+            request.push(String::from_str(heap, word)?)?;
+        }
+        Ok(request)
+    }
+
+    // The number of the fault that these words meet.
+    fn refused(heap: Global, words: &[&str]) -> Result<Option<u8>, AllocError> {
+        match answer(heap, &request(heap, words)?) {
+            Ok(_) => Ok(None),
+            Err(fault) => Ok(fault.number()),
+        }
+    }
+
+    #[test]
+    fn table_by_running_sums(rt: LibcRuntime) -> Result<(), Fail> {
+        let heap = rt.alloc();
+        let words = request(heap, &["running", "101", "50", "30", "20"])?;
+        match answer(heap, &words) {
+            Ok(text) => check(
+                text.as_str()
+                    == "1,50,50,50,50\n2,30,30,30,30\n3,20,20,20,21\nsum,100,100,100,101\n",
+            ),
+            Err(_) => Err(Fail::new("refused")),
+        }
+    }
+
+    #[test]
+    fn requests_refused(rt: LibcRuntime) -> Result<(), Fail> {
+        let heap = rt.alloc();
+        check_eq(refused(heap, &["biggest", "1", "1"])?, Some(3))?;
+        check_eq(refused(heap, &["largest"])?, Some(4))?;
+        check_eq(refused(heap, &["largest", "1", "01"])?, Some(5))?;
+        check_eq(
+            refused(heap, &["largest", "18446744073709551616", "1"])?,
+            Some(6),
+        )?;
+        check_eq(refused(heap, &["largest", "1"])?, Some(41))?;
+        check_eq(
+            refused(heap, &["largest", "9223372036854775808", "1"])?,
+            Some(42),
+        )
     }
 }
