@@ -5,10 +5,8 @@ use Prim.Native.Nat.{ℕ, zero, suc, _+_, _<_, _≤_}
 use native.Mathlib.Omega.{arith}
 use native.Mathlib.Numerals.{add-one}
 use lib.ListN.{length, getD, set, take, drop}
-use Rattle.std.proofs.shelf.Lists.{drop-at, getD-default, length-take-le, take-append-drop}
+use Rattle.std.proofs.shelf.Lists.{getD-default, length-take-le, take-append-drop}
 use Rattle.register.specs.Records.{replacedAt}
-use Rattle.register.specs.Register.{memory, records, Kept}
-use Rattle.register.specs.declared.Register.{Register}
 use Rattle.register.proofs.Lookups.{replacedAt-set}
 use Rattle.records.specs.declared.customer.Customer.{Customer}
 use Rattle.book.specs.declared.sharing.Share.{Share}
@@ -69,13 +67,3 @@ pass-more to ss cs now i row h k e r =
     ∙ ap (λ (t : List Customer). set t i row) e
     ∙ ap (set (with-shares w (take i ss) cs) i) (r ∙ ap (λ (c : Customer). w c (getD ss i 0)) old)
     ∙ with-more w ss cs i nobody h k
-
--- one change after another, of as many records
-pub kept-then : (a b c : Register Customer) → length (records c) ≡ length (records b) → Kept key a b → Kept key b c → Kept key a c
-kept-then a b c e p q =
-    record {
-      rest = q .rest ∙ ap (λ (t : List Customer). records c ++ t) (ap (drop (length (records c))) (p .rest) ∙ drop-at (records b) (drop (length (records b)) (memory a)) (length (records c)) (sym e) ∙ ap (λ (n : ℕ). drop n (memory a)) (sym e));
-      size = q .size ∙ p .size;
-      order = λ o. q .order (p .order o);
-      lender = q .lender ∙ p .lender;
-    }

@@ -1,20 +1,16 @@
 -- The answers of grants and transfers, case by case.
 use mathlib.Core.Path.{_≡_, refl, sym, ap, _∙_}
 use mathlib.Core.Bool.{Bool, true, false, cond, _||_}
-use mathlib.Core.List.{List, _++_}
+use mathlib.Core.List.{List}
 use Prim.Native.Nat.{ℕ, _+_, _-_, _<_, _≤_}
 use native.Mathlib.Omega.{arith}
 use lib.Dec.{eqb, ltb, leb}
-use lib.ListN.{length, drop}
 use Rattle.std.specs.Options.{isSome, valueOr}
 use Rattle.std.specs.declared.option.Option.the-variants.{Some, None}
 use Rattle.std.specs.declared.result.Result.{Result}
 use Rattle.std.specs.declared.result.Result.the-variants.{Ok, Err}
 use Rattle.std.proofs.shelf.Tests.{lt-ltb, le-ltb, le-leb, lt-leb, eq-eqb, ne-eqb}
-use Rattle.std.proofs.shelf.Lists.{drop-at}
 use Rattle.register.specs.Records.{lookup}
-use Rattle.register.specs.Register.{records, memory, Kept}
-use Rattle.register.specs.declared.Register.{Register}
 use Rattle.records.specs.declared.customer.Customer.{Customer}
 use Rattle.book.specs.declared.parcel.Parcel.{Parcel}
 use Rattle.book.specs.declared.refusal.Refusal.{Refusal}
@@ -144,15 +140,3 @@ module _ (cs : List Customer) (p : Parcel) where
             let l = le-leb (customer cs receiver .mark + carried cs p) most-mark (omega arith) in
             let to = a ∙ ap (λ (x : Customer). remarked (remarked cs x (x .mark) 0) d (d .mark + x .transit) (d .transit)) (sym giver-is) ∙ ap (λ (x : Customer). remarked (remarked cs (customer cs (p .giver)) (customer cs (p .giver) .mark) 0) x (x .mark + carried cs p) (x .transit)) (sym receiver-is) in
             record { answer = rw (carries, ap isSome f, n, l) refl; after = to ∙ rw (carries, ap isSome f, n, l) refl }
-
--- one change after another
-pub kept-then : {R : Type 0} (key : R → ℕ) (before middle after : Register R) → length (records after) ≡ length (records middle) → Kept key before middle → Kept key middle after → Kept key before after
-kept-then key before middle after l a b = record {
-  rest =
-      b .rest
-      ∙ ap (λ mem. records after ++ drop (length (records after)) mem) (a .rest)
-      ∙ ap (λ xs. records after ++ xs) (drop-at (records middle) (drop (length (records middle)) (memory before)) (length (records after)) (sym l) ∙ ap (λ n. drop n (memory before)) (sym l));
-  size = b .size ∙ a .size;
-  order = λ o. b .order (a .order o);
-  lender = b .lender ∙ a .lender;
-}

@@ -13,7 +13,7 @@ use Rattle.std.specs.declared.option.Option.{Option}
 use Rattle.std.specs.declared.option.Option.the-variants.{Some, None}
 use Rattle.std.specs.declared.result.Result.{Result}
 use Rattle.std.specs.declared.result.Result.the-variants.{Ok, Err}
-use Rattle.std.proofs.shelf.Lists.{length-append, length-drop, length-take, getD-take, take-at, take-append-drop}
+use Rattle.std.proofs.shelf.Lists.{length-append, length-drop, length-take, getD-take, take-at, drop-at, take-append-drop}
 use Rattle.std.proofs.shelf.Tests.{eqb-false}
 use Rattle.register.specs.Records.{InOrder}
 use Rattle.register.specs.Register.{memory, usable, room, count, records, laid, Sought, Untouched, Kept}
@@ -55,6 +55,16 @@ module _ {R : Type 0} where
 
   pub kept-same : (key : R → ℕ) (reg : Register R) → Kept key reg reg
   kept-same key reg = record { rest = sym (laid-records reg); size = refl; order = λ o. o; lender = refl }
+
+  -- one change after another, of as many records
+  pub kept-then : (key : R → ℕ) (a b c : Register R) → length (records c) ≡ length (records b) → Kept key a b → Kept key b c → Kept key a c
+  kept-then key a b c e p q =
+      record {
+        rest = q .rest ∙ ap (λ (t : List R). records c ++ t) (ap (drop (length (records c))) (p .rest) ∙ drop-at (records b) (drop (length (records b)) (memory a)) (length (records c)) (sym e) ∙ ap (λ (n : ℕ). drop n (memory a)) (sym e));
+        size = q .size ∙ p .size;
+        order = λ o. q .order (p .order o);
+        lender = q .lender ∙ p .lender;
+      }
 
   -- the memory and the count once the records are ys
   module _ (before : Register R) (mem : List R) (standing : ℕ) (ys : List R) (new : mem ≡ laid ys (memory before)) (stand : min standing (room before) ≡ length ys) where

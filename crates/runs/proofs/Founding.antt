@@ -25,7 +25,8 @@ use Rattle.book.specs.Rates.{Meaning, divisible, passes, found-asks, Founds}
 use Rattle.book.specs.Sides.{no-sides}
 use Rattle.runs.specs.Runs.{Entered, none, one-more, held, on-the-way, Lawful-meaning}
 use Rattle.runs.proofs.Asked.{first-yes, told-ok, staged-ok}
-use Rattle.runs.proofs.Written.{length-written, all-written, sumBy-made, sumBy-zero, divisible-passes}
+use Rattle.book.proofs.Portions.{length-with}
+use Rattle.runs.proofs.Written.{all-written, sumBy-made, sumBy-zero, divisible-passes}
 use Rattle.runs.proofs.Marks.{Marks-kept, Small, all-shelf, all-finite}
 
 entered-few : {cs : List Customer} → Entered cs → length cs ≤ 512
@@ -85,7 +86,7 @@ module _ {D : Type 0} (m : D → Meaning) (fair : (d : D) → Lawful-meaning (m 
           balanced = rw is (omega (arith, law .adds-up, sumBy-made (λ c s. marked c s 0) (λ c. c .mark) (λ n. n) (λ c s. refl) shares cs long, sumBy-made (λ c s. marked c s 0) (λ c. c .transit) (λ n. 0) (λ c s. refl) shares cs long, sumBy-zero shares));
           counted = ap (λ (x : OpenBook D). x .granted) book;
           limited = omega arith;
-          few = rw is (omega (arith, length-written (λ c s. marked c s 0) shares cs, entered-few e));
+          few = rw is (omega (arith, length-with (λ c s. marked c s 0) shares cs, entered-few e));
           small = rw is (all-written (λ c s. marked c s 0) Small (λ c s h. h) shares cs (entered-small e));
         };
       }

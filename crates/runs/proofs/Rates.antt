@@ -28,7 +28,8 @@ use Rattle.runs.specs.History.{Event, staying, closing, refusal}
 use Rattle.runs.specs.Runs.{held, on-the-way, Within-one, Rated, Lawful-meaning}
 use Rattle.runs.proofs.Asked.{staged-ok, staged-err}
 use Rattle.runs.proofs.Near.{within-one}
-use Rattle.runs.proofs.Written.{length-written, all-written, sumBy-left, sumBy-made, getD-written, divisible-passes}
+use Rattle.book.proofs.Portions.{length-with}
+use Rattle.runs.proofs.Written.{all-written, sumBy-left, sumBy-made, getD-written, divisible-passes}
 use Rattle.runs.proofs.Marks.{Marks-kept, Small, same-marks}
 
 -- What an accepted close leaves.
@@ -70,7 +71,7 @@ module _ {D : Type 0} (m : D → Meaning) where
         let law = fair (b .divider) (b .header .capability) marks (divisible-passes (λ x. x .mark) cs (b .header .capability) above fits) in
         let long : length shares ≡ length cs = law .len ∙ length-map cs (λ x. x .mark) in
         let is : cs′ ≡ with-shares rated shares cs = s .after ∙ ap (λ o. cond (passes o) (rated-by shares cs) cs) asks in
-        let count : length cs′ ≡ length cs = ap length is ∙ length-written rated shares cs in
+        let count : length cs′ ≡ length cs = ap length is ∙ length-with rated shares cs in
         let holds : held cs′ ≡ held cs = ap held is ∙ sumBy-left rated (λ x. x .mark) (λ x n. refl) shares cs in
         record {
           book = ok .1;

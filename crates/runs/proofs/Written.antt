@@ -18,11 +18,6 @@ sumBy-zero [] = refl
 sumBy-zero {X} (x ∷ xs) = omega (arith, sumBy-cons (λ (y : X). 0) x xs, sumBy-zero xs)
 
 module _ (w : Customer → ℕ → Customer) where
-  pub length-written : (shares : List ℕ) (cs : List Customer) → length (with-shares w shares cs) ≡ length cs
-  length-written shares [] = refl
-  length-written [] (c ∷ cs) = refl
-  length-written (s ∷ shares) (c ∷ cs) = ap suc (length-written shares cs)
-
   pub all-written : (P : Customer → Type 0) → ((c : Customer) (s : ℕ) → P c → P (w c s)) → (shares : List ℕ) (cs : List Customer) → All P cs → All P (with-shares w shares cs)
   all-written P each shares [] h = tt
   all-written P each [] (c ∷ cs) h = h

@@ -3,10 +3,10 @@ use native.Mathlib.Omega.{arith}
 use Rattle.register.specs.Register.{records}
 use lib.ListN.{length}
 use Rattle.register.specs.Records.{replaced}
-use Rattle.register.proofs.Change.{kept-same}
+use Rattle.register.proofs.Change.{kept-same, kept-then}
 use Rattle.register.proofs.Lookups.{length-replaced}
 use Rattle.book.specs.Customers.{key}
-use Rattle.book.proofs.Transfers.{carried-missing, carried-is, land-lost, land-spoiled, land-done, kept-then}
+use Rattle.book.proofs.Transfers.{carried-missing, carried-is, land-lost, land-spoiled, land-done}
 use Rattle.book.proofs.stages.OpenBook.land.Needs as need
 
 pub returns-in-rest : need.returns-in-rest
