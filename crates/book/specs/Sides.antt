@@ -62,12 +62,12 @@ struck-credits s (entry.Shift p q) n = lowered s q n
 abbrev pub most-cents : ℕ
 most-cents = 400000000000
 
--- Whether both sides of a pool stay within it.
+-- Whether both sides of a pool stay within the most cents once a line is posted.
 abbrev pub stays : Sides → Sides → Entry → ℕ → Pool → Bool
 stays costs credits e n p =
     leb (side costs p + cost-of e p n) most-cents && leb (side credits p + credit-of e p n) most-cents
 
--- Whether both sides of each pool that the line touches do.
+-- The same of each pool that the line touches.
 abbrev pub all-stay : Sides → Sides → Entry → ℕ → Bool
 all-stay costs credits (entry.Expense p) n = stays costs credits (entry.Expense p) n p
 all-stay costs credits (entry.Credit p) n = stays costs credits (entry.Credit p) n p
@@ -84,7 +84,7 @@ all-hold costs credits (entry.Shift p q) n = leb n (side costs p) && leb n (side
 abbrev pub cost : Sides → Sides → Pool → ℤ
 cost costs credits p = pos (side costs p) -ℤ pos (side credits p)
 
--- What a posting enters, where its letters are known, and the second is unlike the first.
+-- A shift between two pools, where both are known and unlike.
 abbrev pub paired : Option Pool → Option Pool → Option Entry
 paired None q = None
 paired (Some p) None = None

@@ -7,7 +7,7 @@ use crate::sides::Sides;
 use records::Pool;
 
 /// The most cents on a side of a pool.
-pub const MOST_CENTS: u64 = 400_000_000_000;
+const MOST_CENTS: u64 = 400_000_000_000;
 
 impl Sides {
     /// The cents of a pool.

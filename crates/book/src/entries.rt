@@ -7,7 +7,8 @@ use records::Pool;
 use records::PoolPartialEq;
 
 impl Posting {
-    /// What is entered, where each letter names a pool, and a shift names two.
+    /// What is entered, where each letter names a pool, and a shift names two
+    /// different ones.
     pub(crate) fn entry(self) -> Option<Entry>
         ensures { λ r. ⌜ r ≡ entry-of self ⌝ }
     {

@@ -24,9 +24,9 @@ impl<D> OpenBook<D> {
     /// Enters a cost line, and raises the sides of its pools.
     ///
     /// Asks whether the number is in its range (6), whether the letters name
-    /// pools, and in a shift two (8), whether a place is free (20), whether
-    /// the number is new (21), and whether both sides of each pool that the
-    /// line touches stay within 400,000,000,000 (33).
+    /// pools, and in a shift two different ones (8), whether a place is free
+    /// (20), whether the number is new (21), and whether both sides of each
+    /// pool that the line touches stay within 400,000,000,000 (33).
     pub fn post(
         &mut self,
         lines: &mut Register<'_, CostLine>,
@@ -125,7 +125,7 @@ fn all_stay(costs: Sides, credits: Sides, entry: Entry, cents: u64) -> bool
     }
 }
 
-// Whether both sides of a pool do.
+// Whether both sides of one of its pools stay within the most cents.
 fn both_stay(costs: Sides, credits: Sides, entry: Entry, cents: u64, pool: Pool) -> bool
     ensures { λ r. ⌜ r ≡ stays costs credits entry cents pool ⌝ }
 {

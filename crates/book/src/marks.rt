@@ -17,17 +17,17 @@ use register::Register;
 use units::Load;
 
 /// The most load that the grants of a book add up to.
-pub const MOST_GRANTED: u64 = 50_000;
+const MOST_GRANTED: u64 = 50_000;
 
 /// The most load on a mark.
-pub const MOST_MARK: u64 = 20_050_000;
+const MOST_MARK: u64 = 20_050_000;
 
 impl<D> OpenBook<D> {
     /// Adds a load to a customer's mark.
     ///
     /// Asks whether the customer stands (25), whether the load is above 0
-    /// (26), and whether the grants of this book with it stay within 50,000
-    /// (27).
+    /// (26), whether the grants of this book with it stay within 50,000 (27),
+    /// and whether the mark stays within 20,050,000 (24).
     pub fn grant(
         &mut self,
         customers: &mut Register<'_, Customer>,
@@ -118,7 +118,9 @@ impl<D> OpenBook<D> {
     /// Asks whether the parcel's giver has a load on the way in this register
     /// (30, and nothing changes), whether the receiver stands (31), and
     /// whether it is another than the giver (32). After 31 and 32 the load is
-    /// on the giver's mark again.
+    /// on the giver's mark again. Where the mark that the load goes to would
+    /// pass 20,050,000, the answer is 24, also in place of 31 and 32, and
+    /// nothing changes.
     pub fn land(
         &self,
         customers: &mut Register<'_, Customer>,
@@ -154,7 +156,8 @@ impl<D> OpenBook<D> {
     /// Puts the load back on the giver's mark, and ends the parcel.
     ///
     /// Asks whether the parcel's giver has a load on the way in this register
-    /// (30, and nothing changes).
+    /// (30), and whether its mark stays within 20,050,000 (24); on either
+    /// nothing changes.
     pub fn give_back(
         &self,
         customers: &mut Register<'_, Customer>,

@@ -15,7 +15,8 @@ pub enum Refusal {
     ShortSheet,
     /// 23: the founding weights add up to 0.
     NoFoundingWeight,
-    /// 24: the register holds numbers that no run of calls leads to.
+    /// 24: a mark would pass 20,050,000, the marks to close by add up to 0, a
+    /// side of a pool would fall below 0, or a division would be too large.
     Spoiled,
     /// 25: no such record stands.
     Missing,

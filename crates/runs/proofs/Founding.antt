@@ -2,50 +2,76 @@
 use mathlib.Core.Path.{_≡_, refl, sym, ap, _∙_}
 use mathlib.Core.Bool.{true, cond}
 use mathlib.Core.List.{List, [], _∷_, map}
-use Prim.Native.Nat.{ℕ, _+_, _<_, _≤_}
+use Prim.Native.Nat.{ℕ, _+_, _*_, _<_, _≤_}
+use native.Mathlib.Nat.{mul-le-mul}
 use native.Mathlib.Omega.{arith}
 use lib.ListN.{length, length-map}
 use Rattle.std.specs.declared.option.Option.the-variants.{Some, None}
 use Rattle.std.specs.declared.result.Result.the-variants.{Ok, Err}
 use Rattle.std.specs.shelf.Lists.{All, sum, sumBy}
-use Rattle.std.proofs.shelf.Tests.{and-parts, leb-true, ltb-true}
+use Rattle.std.proofs.shelf.Sums.{sumBy-le}
+use Rattle.std.proofs.shelf.Tests.{and-parts, and-from, leb-true, le-leb, ltb-true}
 use Rattle.std.proofs.shelf.Ways.{tells}
 use Rattle.register.specs.Records.{added}
 use Rattle.register.proofs.Every.{all-added}
 use Rattle.register.proofs.Lookups.{length-added}
-use Rattle.divider.specs.Questions.{Passes}
+use Rattle.divider.specs.Questions.{limit, Passes}
 use Rattle.records.specs.declared.customer.Customer.{Customer}
 use Rattle.records.specs.Figures.{founding-weight}
 use Rattle.book.specs.declared.figures.Figures.{Figures}
+use Rattle.book.specs.declared.refusal.Refusal.{Refusal}
+use Rattle.book.specs.declared.refusal.Refusal.the-variants.{Spoiled}
 use Rattle.book.specs.declared.stages.Intake.{Intake}
 use Rattle.book.specs.declared.stages.OpenBook.{OpenBook}
 use Rattle.book.specs.Books.{opened}
 use Rattle.book.specs.Customers.{key, entered, in-ranges, enter-asks, marked, founded-by, with-shares}
 use Rattle.book.specs.Rates.{Meaning, divisible, passes, found-asks, Founds}
 use Rattle.book.specs.Sides.{no-sides}
-use Rattle.runs.specs.Runs.{Entered, none, one-more, held, on-the-way, Lawful-meaning}
-use Rattle.runs.proofs.Asked.{first-yes, told-ok, staged-ok}
+use Rattle.runs.specs.Runs.{Entered, bare, none, used, one-more, held, on-the-way, Lawful-meaning}
+use Rattle.runs.proofs.Asked.{first-yes, told-ok, staged-ok, staged-err}
 use Rattle.book.proofs.Portions.{length-with}
 use Rattle.runs.proofs.Written.{all-written, sumBy-made, sumBy-zero, divisible-passes}
 use Rattle.runs.proofs.Marks.{Marks-kept, Small, all-shelf, all-finite}
 
 entered-few : {cs : List Customer} → Entered cs → length cs ≤ 512
 entered-few none = omega arith
+entered-few (used {cs} {cs′} e same) =
+    let long : length (map bare cs′) ≡ length (map bare cs) = ap length same in
+    omega (arith, length-map cs′ bare, length-map cs bare, entered-few e)
 entered-few (one-more {cs} {cs′} places f le e s) =
     let asks : enter-asks places cs f ≡ None = told-ok tt tt (enter-asks places cs f) (s .answer) .0 in
     let free : length cs < places = grind (arith, tells) in
     rw (s .after) (omega (arith, length-added key (entered f) cs))
 
-elected-small : (f : Figures) → in-ranges f ≡ true → f .elected ≤ 30000
-elected-small f all = grind (arith, tells)
+-- A figure that no book writes, and that no enter accepts above a bound, stays within it.
+module _ (f : Customer → ℕ) (most : ℕ) (unwritten : (c : Customer) → f (bare c) ≡ f c) (within : (x : Figures) → in-ranges x ≡ true → f (entered x) ≤ most) where
+  abbrev Below : Customer → Type 0
+  Below c = f c ≤ most
+
+  same-below : (cs cs′ : List Customer) → map bare cs′ ≡ map bare cs → All Below cs → All Below cs′
+  same-below cs [] same h = tt
+  same-below [] (d ∷ ds) same h = absurd (let long : length (map bare (d ∷ ds)) ≡ 0 = ap length same in omega arith)
+  same-below (c ∷ cs) (d ∷ ds) same h =
+      let here : bare d ≡ bare c = cc in
+      let there : map bare ds ≡ map bare cs = cc in
+      let e : f d ≡ f c = sym (unwritten d) ∙ ap f here ∙ unwritten c in
+      (omega (arith, h .0), same-below cs ds there (h .1))
+
+  entered-below : {cs : List Customer} → Entered cs → All Below cs
+  entered-below none = tt
+  entered-below (used {cs} {cs′} e same) = same-below cs cs′ same (entered-below e)
+  entered-below (one-more {cs} {cs′} places x le e s) =
+      let asks : enter-asks places cs x ≡ None = told-ok tt tt (enter-asks places cs x) (s .answer) .0 in
+      let here : Below (entered x) = within x (first-yes _ _ _ asks .0) in
+      rw (s .after) (all-shelf Below (added key (entered x) cs) (all-added key Below (entered x) cs here (all-finite Below cs (entered-below e))))
 
 entered-small : {cs : List Customer} → Entered cs → All Small cs
-entered-small none = tt
-entered-small (one-more {cs} {cs′} places f le e s) =
-    let asks : enter-asks places cs f ≡ None = told-ok tt tt (enter-asks places cs f) (s .answer) .0 in
-    let yes : in-ranges f ≡ true = first-yes _ _ _ asks .0 in
-    let here : f .elected ≤ 30000 = elected-small f yes in
-    rw (s .after) (all-shelf Small (added key (entered f) cs) (all-added key Small (entered f) cs here (all-finite Small cs (entered-small e))))
+entered-small e = entered-below (λ c. c .elected) 30000 (λ c. refl) (λ x all. grind (arith, tells)) e
+
+weights-small : {cs : List Customer} → Entered cs → sumBy founding-weight cs ≤ 1280000000
+weights-small {cs} e =
+    let each = entered-below founding-weight 2500000 (λ c. refl) (λ x all. grind (arith, tells)) e in
+    omega (arith, sumBy-le founding-weight 2500000 cs each, entered-few e)
 
 -- What founding leaves, of the book and of its customers.
 pub record Starts {D : Type 0} (intake : Intake D) (b : OpenBook D) (cs : List Customer) : Type 0 where
@@ -90,3 +116,15 @@ module _ {D : Type 0} (m : D → Meaning) (fair : (d : D) → Lawful-meaning (m 
           small = rw is (all-written (λ c s. marked c s 0) Small (λ c s h. h) shares cs (entered-small e));
         };
       }
+
+-- The founding total times the sum of such weights is far below the limit.
+pub found-unspoiled : {D : Type 0} (m : D → Meaning) (intake : Intake D) (back : Intake D × Refusal) (cs cs′ : List Customer) (ws ss ws′ ss′ : List ℕ) → Entered cs → Founds m intake cs ws ss (Err back) cs′ ws′ ss′ → back .1 ≡ Spoiled → ⊥
+found-unspoiled m intake back cs cs′ ws ss ws′ ss′ e s bad =
+    let total = intake .header .«founding_total» in
+    let all = sumBy founding-weight cs in
+    let asks : found-asks m intake cs ws ss ≡ Some Spoiled = staged-err intake (back .0) (opened intake) (back .1) (found-asks m intake cs ws ss) (s .answer) .0 ∙ ap Some bad in
+    let most : total ≤ 20000000 = omega (arith, intake .header .«total_within») in
+    let below : all ≤ 1280000000 = weights-small e in
+    let product : total * all ≤ 20000000 * 1280000000 = mul-le-mul most below in
+    let fits : divisible total all ≡ true = and-from _ _ (le-leb all limit (omega arith)) (le-leb (total * all) limit (omega arith)) in
+    grind (arith, tells)

@@ -25,7 +25,7 @@ use Rattle.book.specs.declared.refusal.Refusal.the-variants.{Spoiled}
 use Rattle.book.specs.declared.stages.Intake.{Intake}
 use Rattle.book.specs.declared.stages.OpenBook.{OpenBook}
 use Rattle.book.specs.declared.stages.ClosedBook.{ClosedBook}
-use Rattle.book.specs.Customers.{nobody, Enters}
+use Rattle.book.specs.Customers.{nobody, marked, rated, Enters}
 use Rattle.book.specs.Marks.{Grants, Lifts, Lands, Returns}
 use Rattle.book.specs.Lines.{Posts, Strikes}
 use Rattle.book.specs.Rates.{Meaning, Founds, Closes, Bills, size, part}
@@ -64,9 +64,14 @@ module _ {D : Type 0} (m : D → Meaning) where
     start : Run w [] w
     next : {es : List Event} {e : Event} {w′ w″ : World D} → Run w es w′ → Step w′ e w″ → Run w (e ∷ es) w″
 
--- Customers that all came by accepted enters, in a register of at most 512 places.
+-- A customer without what books wrote into its record.
+abbrev pub bare : Customer → Customer
+bare c = rated (marked c 0 0) 0
+
+-- Customers that all came by accepted enters, in a register of at most 512 places, whatever books wrote into their records since.
 pub data Entered : List Customer → Type 0 where
   none : Entered []
+  used : {cs cs′ : List Customer} → Entered cs → map bare cs′ ≡ map bare cs → Entered cs′
   one-more : {cs cs′ : List Customer} (places : ℕ) (f : Figures) → places ≤ 512 → Entered cs → Enters places cs f (Ok tt) cs′ → Entered cs′
 
 -- Marks held and marks on their way.

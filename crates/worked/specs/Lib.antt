@@ -1,2 +1,1 @@
-pub mod Divisions
-pub mod Transfers
+pub mod Cases

@@ -1,9 +1,9 @@
 //! The worked cases: examples by hand that the rules must give.
 //!
 //! The table of them stands in specs/, and is proved of the same definitions
-//! that the contracts of the dividers cite; the tests run the code on it.
-ghost use Rattle.worked.specs.Divisions.{All-hold};
-ghost use Rattle.worked.specs.Transfers.{Book-holds};
+//! that the contracts of the dividers and of the book cite; the tests run the
+//! code on the divisions.
+ghost use Rattle.worked.specs.Cases.{All-hold};
 use divider::Divider;
 use divider::Refusal;
 use divider::RefusalPartialEq;
@@ -12,8 +12,7 @@ use sharing::RuleDivider;
 
 /// Every worked division, transfer and charge comes out as the table says.
 pub fn cases_hold()
-    ensures divisions { λ _. ⌜ All-hold ⌝ }
-    ensures book { λ _. ⌜ Book-holds ⌝ }
+    ensures { λ _. ⌜ All-hold ⌝ }
 {}
 
 #[cfg(test)]

@@ -1,8 +1,9 @@
-//! The worked book of three customers, from entering to the bills.
+//! The worked book of three customers, from entering to the bills: once with
+//! its grant refused, once with it accepted.
 //!
-//! It prints the marks after founding and after each transfer, the number of
-//! each refusal that it provokes, and at the end for each customer number,
-//! mark, RHWM, Above-RHWM load and the charges in C, N, S and T.
+//! It prints the marks after founding and after the transfers, how each call
+//! ended, and at last for each customer number, mark, RHWM, Above-RHWM load
+//! and the charges in C, N, S and T.
 use book::ClosedBook;
 use book::Figures;
 use book::Intake;
@@ -104,6 +105,20 @@ fn transfer(
     }
 }
 
+// Adds a load to a customer's mark, and says how it ended.
+fn grant(
+    rt: &LibcRuntime,
+    book: &mut OpenBook<LargestRemainder>,
+    customers: &mut Register<'_, Customer>,
+    number: u32,
+    thousandths: u64,
+) -> io::Result<()> {
+    match Load::new(thousandths) {
+        Ok(load) => tell(rt, "grant", book.grant(customers, number, load)),
+        Err(_) => tell(rt, "grant", Err(Refusal::OutOfRange)),
+    }
+}
+
 // Enters the three customers.
 fn enter_all(
     intake: &Intake<LargestRemainder>,
@@ -187,12 +202,13 @@ fn print_all(
     Ok(())
 }
 
-// Moves marks, posts, closes and bills.
+// Moves marks, grants, posts, closes and bills.
 fn settle(
     rt: &LibcRuntime,
     mut book: OpenBook<LargestRemainder>,
     customers: &mut Register<'_, Customer>,
     lines: &mut Register<'_, CostLine>,
+    granted: u64,
 ) -> io::Result<()> {
     print_marks(rt, customers)?;
     transfer(rt, &book, customers, 2, 1, 31)?;
@@ -200,6 +216,7 @@ fn settle(
     transfer(rt, &book, customers, 1, 2, 5)?;
     print_marks(rt, customers)?;
     transfer(rt, &book, customers, 2, 1, 5)?;
+    grant(rt, &mut book, customers, 1, granted)?;
     tell(rt, "posting", post_all(&mut book, lines))?;
     let mut weights = [0; 3];
     let mut shares = [0; 3];
@@ -213,21 +230,27 @@ fn settle(
     }
 }
 
-fn main(rt: LibcRuntime) -> Result<(), AnyError> {
+// Takes the book from entering to the bills, with a grant to Alder.
+fn run(rt: &LibcRuntime, header: Header, granted: u64) -> io::Result<()> {
     let mut customer_places = [NOBODY; 3];
     let mut customers = Register::new(&mut customer_places);
     let mut line_places = [NO_LINE; 4];
     let mut lines = Register::new(&mut line_places);
-    let Ok(header) = Header::new(101, 97) else {
-        return Err("the header is out of range".into());
-    };
     let intake = Intake::new(LargestRemainder, header);
-    tell(&rt, "entering", enter_all(&intake, &mut customers))?;
+    tell(rt, "entering", enter_all(&intake, &mut customers))?;
     let mut weights = [0; 3];
     let mut shares = [0; 3];
     match runs::found(intake, &mut customers, &mut weights, &mut shares) {
-        Ok(book) => settle(&rt, book, &mut customers, &mut lines)?,
-        Err(back) => tell(&rt, "founding", Err(back.1))?,
+        Ok(book) => settle(rt, book, &mut customers, &mut lines, granted),
+        Err(back) => tell(rt, "founding", Err(back.1)),
     }
+}
+
+fn main(rt: LibcRuntime) -> Result<(), AnyError> {
+    let Ok(header) = Header::new(101, 97) else {
+        return Err("the header is out of range".into());
+    };
+    run(&rt, header, 50_001)?;
+    run(&rt, header, 9)?;
     Ok(())
 }
