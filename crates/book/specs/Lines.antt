@@ -1,6 +1,6 @@
 -- Posting and striking of cost lines.
 use mathlib.Core.Path.{_≡_}
-use mathlib.Core.Bool.{Bool, true, cond, not}
+use mathlib.Core.Bool.{cond, not}
 use mathlib.Core.List.{List, [], _∷_}
 use Prim.Native.Nat.{ℕ}
 use lib.Dec.{ltb}
@@ -8,7 +8,6 @@ use lib.ListN.{length}
 use Rattle.std.specs.Options.{isSome, valueOr}
 use Rattle.std.specs.Results.{isOk}
 use Rattle.std.specs.declared.option.Option.{Option}
-use Rattle.std.specs.declared.option.Option.the-variants.{Some, None}
 use Rattle.std.specs.declared.result.Result.{Result}
 use Rattle.units.specs.Ranges.{in-range}
 use Rattle.units.specs.declared.ranges.Letter.the-variants as line

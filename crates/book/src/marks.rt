@@ -1,9 +1,10 @@
 //! Grants of mark, and transfers: lift, land, give back.
 ghost use mathlib.Core.Path.{_≡_};
 ghost use mathlib.Core.Bool.{cond};
+ghost use Rattle.std.specs.Results.{Cases};
 ghost use Rattle.register.specs.Register.{records, Kept};
 ghost use Rattle.book.specs.Customers.{key};
-ghost use Prim.Native.Nat.{_+_};
+ghost use Prim.Native.Nat.{_+_, _^_, _<_, _≤_};
 ghost use lib.Dec.{leb};
 ghost use Rattle.book.specs.declared.refusal.Refusal.the-variants.{Spoiled};
 ghost use Rattle.book.specs.Marks.{most-mark, remarked, Grants, Lifts, Lands, Returns};
@@ -19,8 +20,16 @@ use units::Load;
 /// The most load that the grants of a book add up to.
 const MOST_GRANTED: u64 = 50_000;
 
-/// The most load on a mark.
-const MOST_MARK: u64 = 20_050_000;
+// A mark with a load more, where that is a load.
+fn raised(mark: u32, more: u64) -> Result<u32, Refusal>
+    requires { ⌜ more < 2 ^ 32 ⌝ }
+    ensures { λ r. ⌜ Cases r (λ sum. (mark + more ≤ most-mark) × (sum ≡ mark + more)) (λ refusal. (most-mark < mark + more) × (refusal ≡ Spoiled)) ⌝ }
+{
+    match Load::new(mark as u64 + more) {
+        Ok(load) => Ok(load.thousandths() as u32),
+        Err(_) => Err(Refusal::Spoiled),
+    }
+}
 
 impl<D> OpenBook<D> {
     /// Adds a load to a customer's mark.
@@ -45,11 +54,9 @@ impl<D> OpenBook<D> {
         if load > MOST_GRANTED || self.granted > MOST_GRANTED - load {
             return Err(Refusal::OverGranted);
         }
-        let mark = customer.mark as u64 + load;
-        if mark > MOST_MARK {
+        let Ok(mark) = raised(customer.mark, load) else {
             return Err(Refusal::Spoiled);
-        }
-        let mark = mark as u32;
+        };
         let _ = customers.replace(Customer { mark, ..customer });
         self.granted += load;
         Ok(())
@@ -99,11 +106,9 @@ fn send_home(customers: &mut Register<'_, Customer>, giver: Customer, refusal: R
     ensures after { λ _. ⌜ records (now (customers .exit)) ≡ cond (leb (giver .mark + giver .transit) most-mark) (remarked (records (now (customers .entry))) giver (giver .mark + giver .transit) 0) (records (now (customers .entry))) ⌝ }
     ensures kept { λ _. ⌜ Kept key (now (customers .entry)) (now (customers .exit)) ⌝ }
 {
-    let mark = giver.mark as u64 + giver.transit as u64;
-    if mark > MOST_MARK {
+    let Ok(mark) = raised(giver.mark, giver.transit as u64) else {
         return Refusal::Spoiled;
-    }
-    let mark = mark as u32;
+    };
     let _ = customers.replace(Customer {
         mark,
         transit: 0,
@@ -143,11 +148,9 @@ impl<D> OpenBook<D> {
         if receiver == giver {
             return Err(send_home(customers, from, Refusal::SameCustomer));
         }
-        let mark = to.mark as u64 + from.transit as u64;
-        if mark > MOST_MARK {
+        let Ok(mark) = raised(to.mark, from.transit as u64) else {
             return Err(Refusal::Spoiled);
-        }
-        let mark = mark as u32;
+        };
         let _ = customers.replace(Customer { transit: 0, ..from });
         let _ = customers.replace(Customer { mark, ..to });
         Ok(())
@@ -173,11 +176,9 @@ impl<D> OpenBook<D> {
         if from.transit == 0 {
             return Err(Refusal::NotOnTheWay);
         }
-        let mark = from.mark as u64 + from.transit as u64;
-        if mark > MOST_MARK {
+        let Ok(mark) = raised(from.mark, from.transit as u64) else {
             return Err(Refusal::Spoiled);
-        }
-        let mark = mark as u32;
+        };
         let _ = customers.replace(Customer {
             mark,
             transit: 0,

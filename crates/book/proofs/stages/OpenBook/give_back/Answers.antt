@@ -12,5 +12,5 @@ returns-in-rest g c = record { done = return-lost (records (c .args .customers .
 pub returns-then-from-eq0 : need.returns-then-from-eq0
 returns-then-from-eq0 g c = record { done = return-lost (records (c .args .customers .now)) (c .args .parcel) (carried-is (records (c .args .customers .now)) (c .args .parcel) (c .in-Ok .from) (rw (c .open-giver .ensures) at (c .in-Ok .ensures tt)) ∙ c .if-from-eq0 .taken); kept = kept-same key (c .args .customers .now) }
 
-pub returns-then-mark-gt-MOST-MARK : need.returns-then-mark-gt-MOST-MARK
-returns-then-mark-gt-MOST-MARK g c = record { done = return-spoiled (records (c .args .customers .now)) (c .args .parcel) (c .in-Ok .from) (rw (c .open-giver .ensures) at (c .in-Ok .ensures tt)) (c .if-from-eq0 .left) (c .if-mark-gt-MOST-MARK .taken); kept = kept-same key (c .args .customers .now) }
+pub returns-in-rest-raised : need.returns-in-rest-raised
+returns-in-rest-raised g c = record { done = return-spoiled (records (c .args .customers .now)) (c .args .parcel) (c .in-Ok .from) (rw (c .open-giver .ensures) at (c .in-Ok .ensures tt)) (c .if-from-eq0 .left) (c .in-rest-raised .ensures tt .0); kept = kept-same key (c .args .customers .now) }

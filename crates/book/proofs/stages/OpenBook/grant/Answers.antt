@@ -30,7 +30,7 @@ returns-then-load-gt-MOST-GRANTED g c =
       kept = kept-same key (c .args .customers .now);
     }
 
-pub returns-then-mark-gt-MOST-MARK : need.returns-then-mark-gt-MOST-MARK
-returns-then-mark-gt-MOST-MARK g c =
+pub returns-in-rest : need.returns-in-rest
+returns-in-rest g c =
     let e = c .thousandths-load .ensures in
-    record { done = grant-spoiled (c .args .self .now) (records (c .args .customers .now)) (c .args .number) (c .args .load .thousandths) (c .in-Continue-customer .customer) (c .in-Continue-customer .ensures tt) (λ z. c .if-load-eq0 .left (e ∙ z)) (omega (arith, c .if-self-load .left)) (omega (arith, c .if-mark-gt-MOST-MARK .taken)); kept = kept-same key (c .args .customers .now) }
+    record { done = grant-spoiled (c .args .self .now) (records (c .args .customers .now)) (c .args .number) (c .args .load .thousandths) (c .in-Continue-customer .customer) (c .in-Continue-customer .ensures tt) (λ z. c .if-load-eq0 .left (e ∙ z)) (omega (arith, c .if-self-load .left)) (omega (arith, c .in-rest .ensures tt .0)); kept = kept-same key (c .args .customers .now) }
