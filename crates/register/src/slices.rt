@@ -8,7 +8,7 @@ ghost use Rattle.register.specs.Register.{laid};
 use super::Keyed;
 
 /// How many records stand before the first one of the number; all, where none has it.
-pub fn place_of<R: Keyed>(records: &[R], number: u32) -> usize
+pub(crate) fn place_of<R: Keyed>(records: &[R], number: u32) -> usize
     ensures { λ r. ⌜ r ≡ placeOf key number (now (records .entry)) ⌝ }
 {
     for (i, row) in records.iter().enumerate() {
@@ -20,7 +20,7 @@ pub fn place_of<R: Keyed>(records: &[R], number: u32) -> usize
 }
 
 /// How many records stand before the first one of a higher number; all, where none has one.
-pub fn place_for<R: Keyed>(records: &[R], number: u32) -> usize
+pub(crate) fn place_for<R: Keyed>(records: &[R], number: u32) -> usize
     ensures { λ r. ⌜ r ≡ placeFor key number (now (records .entry)) ⌝ }
 {
     for (i, row) in records.iter().enumerate() {
@@ -32,7 +32,7 @@ pub fn place_for<R: Keyed>(records: &[R], number: u32) -> usize
 }
 
 /// Puts `row` in at `at`. Of the first `standing` records, those from `at` on move one place up.
-pub fn insert_at<R: Copy>(memory: &mut [R], standing: usize, at: usize, row: R)
+pub(crate) fn insert_at<R: Copy>(memory: &mut [R], standing: usize, at: usize, row: R)
     requires { ⌜ standing < length (now memory) ⌝ ∗ ⌜ at ≤ standing ⌝ }
     ensures { λ _. ⌜ now (memory .exit) ≡ laid (inserted (take standing (now (memory .entry))) at row) (now (memory .entry)) ⌝ }
 {
@@ -41,7 +41,7 @@ pub fn insert_at<R: Copy>(memory: &mut [R], standing: usize, at: usize, row: R)
 }
 
 /// Takes the record at `at` out. Of the first `standing` records, those behind it move one place down.
-pub fn remove_at<R: Copy>(memory: &mut [R], standing: usize, at: usize)
+pub(crate) fn remove_at<R: Copy>(memory: &mut [R], standing: usize, at: usize)
     requires { ⌜ standing ≤ length (now memory) ⌝ ∗ ⌜ at < standing ⌝ }
     ensures { λ _. ⌜ now (memory .exit) ≡ laid (removed (take standing (now (memory .entry))) at) (now (memory .entry)) ⌝ }
 {
@@ -49,7 +49,7 @@ pub fn remove_at<R: Copy>(memory: &mut [R], standing: usize, at: usize)
 }
 
 /// Puts `row` in the place of the record at `place`, and gives that one back.
-pub fn put<R: Copy>(memory: &mut [R], place: usize, row: R) -> R
+pub(crate) fn put<R: Copy>(memory: &mut [R], place: usize, row: R) -> R
     requires { ⌜ place < length (now memory) ⌝ }
     ensures old { λ r. ⌜ r ≡ getD (now (memory .entry)) place r ⌝ }
     ensures after { λ _. ⌜ now (memory .exit) ≡ set (now (memory .entry)) place row ⌝ }
