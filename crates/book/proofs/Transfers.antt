@@ -1,25 +1,21 @@
 -- The answers of grants and transfers, case by case.
 use mathlib.Core.Path.{_≡_, refl, sym, ap, _∙_}
-use mathlib.Core.Bool.{Bool, true, false, cond, _||_}
+use mathlib.Core.Bool.{true}
 use mathlib.Core.List.{List}
 use Prim.Native.Nat.{ℕ, _+_, _-_, _<_, _≤_}
 use native.Mathlib.Omega.{arith}
-use lib.Dec.{eqb, ltb, leb}
+use lib.Dec.{ltb}
 use Rattle.std.specs.Options.{isSome, valueOr}
 use Rattle.std.specs.declared.option.Option.the-variants.{Some, None}
-use Rattle.std.specs.declared.result.Result.{Result}
 use Rattle.std.specs.declared.result.Result.the-variants.{Ok, Err}
 use Rattle.std.proofs.shelf.Tests.{lt-ltb, le-ltb, le-leb, lt-leb, eq-eqb, ne-eqb}
 use Rattle.register.specs.Records.{lookup}
 use Rattle.records.specs.declared.customer.Customer.{Customer}
 use Rattle.book.specs.declared.parcel.Parcel.{Parcel}
-use Rattle.book.specs.declared.refusal.Refusal.{Refusal}
-use Rattle.book.specs.declared.refusal.Refusal.the-variants.{Missing, NoLoad, OverGranted, Spoiled, AlreadyLifted, OverMark, NotOnTheWay, NoReceiver, SameCustomer}
+use Rattle.book.specs.declared.refusal.Refusal.the-variants.{Missing, NoLoad, OverGranted, Spoiled, AlreadyLifted, OverMark, NotOnTheWay}
 use Rattle.book.specs.declared.stages.OpenBook.{OpenBook}
-use Rattle.book.specs.Answers.{number, told}
-use Rattle.book.specs.Books.{granting}
 use Rattle.book.specs.Customers.{key, nobody, customer}
-use Rattle.book.specs.Marks.{most-granted, most-mark, remarked, carried, home, home-fits, sent-home, land-asks, landed, Grants, Lifts, Lands, Returns}
+use Rattle.book.specs.Marks.{most-granted, most-mark, remarked, carried, Grants, Lifts, Lands, Returns}
 
 module _ {D : Type 0} (b : OpenBook D) (cs : List Customer) (n load : ℕ) where
   pub grant-missing : lookup key n cs ≡ None → Grants b cs n load (Err Missing) b cs
@@ -35,9 +31,6 @@ module _ {D : Type 0} (b : OpenBook D) (cs : List Customer) (n load : ℕ) where
     pub grant-spoiled : (load ≡ 0 → ⊥) → b .granted + load ≤ most-granted → most-mark < c .mark + load → Grants b cs n load (Err Spoiled) b cs
     grant-spoiled z h k = record { answer = rw (e, lt-ltb 0 load (omega arith), le-leb (b .granted + load) most-granted h, lt-leb (c .mark + load) most-mark k) refl; book = refl; after = refl }
 
-    pub grant-done : (load ≡ 0 → ⊥) → b .granted + load ≤ most-granted → c .mark + load ≤ most-mark → (cs′ : List Customer) → cs′ ≡ remarked cs c (c .mark + load) (c .transit) → Grants b cs n load (Ok tt) (granting b load) cs′
-    grant-done z h k cs′ f = record { answer = rw (e, lt-ltb 0 load (omega arith), le-leb (b .granted + load) most-granted h, le-leb (c .mark + load) most-mark k) refl; book = refl; after = rw e f }
-
 module _ (cs : List Customer) (n load : ℕ) where
   pub lift-missing : lookup key n cs ≡ None → Lifts cs n load (Err Missing) cs
   lift-missing e = record { answer = rw e refl; after = refl }
@@ -51,9 +44,6 @@ module _ (cs : List Customer) (n load : ℕ) where
 
     pub lift-over : (load ≡ 0 → ⊥) → c .transit ≡ 0 → c .mark < load → Lifts cs n load (Err OverMark) cs
     lift-over z t h = record { answer = rw (e, lt-ltb 0 load (omega arith), eq-eqb (c .transit) 0 t, lt-leb load (c .mark) h) refl; after = refl }
-
-    pub lift-done : (load ≡ 0 → ⊥) → c .transit ≡ 0 → load ≤ c .mark → (cs′ : List Customer) → cs′ ≡ remarked cs c (c .mark - load) load → Lifts cs n load (Ok (record { giver = n })) cs′
-    lift-done z t h cs′ f = record { answer = rw (e, lt-ltb 0 load (omega arith), eq-eqb (c .transit) 0 t, le-leb load (c .mark) h) refl; after = rw e f }
 
 pub customer-is : (cs : List Customer) (n : ℕ) (c : Customer) → lookup key n cs ≡ Some c → customer cs n ≡ c
 customer-is cs n c e = ap (λ o. valueOr o nobody) e
@@ -86,42 +76,9 @@ module _ (cs : List Customer) (p : Parcel) where
         let l = lt-leb (customer cs (p .giver) .mark + carried cs p) most-mark (omega arith) in
         record { answer = rw (carries, l) refl; after = refl }
 
-    pub return-done : c .mark + c .transit ≤ most-mark → (cs′ : List Customer) → cs′ ≡ remarked cs c (c .mark + c .transit) 0 → Returns cs p (Ok tt) cs′
-    return-done h cs′ a =
-        let k = carried-is c e in
-        let m = ap (λ (x : Customer). x .mark) giver-is in
-        let l = le-leb (customer cs (p .giver) .mark + carried cs p) most-mark (omega arith) in
-        record { answer = rw (carries, l) refl; after = a ∙ ap (λ (x : Customer). remarked cs x (x .mark + x .transit) 0) (sym giver-is) }
-
-    -- a landing that sends its load home, where there is room for it
-    home-is : cond (home-fits cs p) (home cs p) cs ≡ cond (leb (c .mark + c .transit) most-mark) (remarked cs c (c .mark + c .transit) 0) cs
-    home-is = ap (λ (x : Customer). cond (leb (x .mark + x .transit) most-mark) (remarked cs x (x .mark + x .transit) 0) cs) giver-is
-
-    sent-is : (r : Refusal) → sent-home cs p r ≡ cond (leb (c .mark + c .transit) most-mark) r Spoiled
-    sent-is r = ap (λ (x : Customer). cond (leb (x .mark + x .transit) most-mark) r Spoiled) giver-is
-
-    land-home : (receiver : ℕ) (e : Refusal) → (eqb (number e) 31 || eqb (number e) 32) ≡ true → land-asks cs p receiver ≡ Some (sent-home cs p e) → (r : Refusal) (cs′ : List Customer) → r ≡ cond (leb (c .mark + c .transit) most-mark) e Spoiled → cs′ ≡ cond (leb (c .mark + c .transit) most-mark) (remarked cs c (c .mark + c .transit) 0) cs → Lands cs p receiver (Err r) cs′
-    land-home receiver e which asks r cs′ f a =
-        let h = home-is in
-        let s : (b : Bool) → cond (eqb (number (cond b e Spoiled)) 31 || eqb (number (cond b e Spoiled)) 32) (home cs p) cs ≡ cond b (home cs p) cs = λ b. by-fit b in
-        record {
-          answer = ap (λ x. Err x) (f ∙ sym (sent-is e)) ∙ ap (told tt) (sym asks);
-          after = a ∙ sym h ∙ sym (s (home-fits cs p)) ∙ ap (landed cs p receiver) (sym asks);
-        }
-      where
-        by-fit : (b : Bool) → cond (eqb (number (cond b e Spoiled)) 31 || eqb (number (cond b e Spoiled)) 32) (home cs p) cs ≡ cond b (home cs p) cs
-        by-fit true = rw which refl
-        by-fit false = refl
-
-    pub land-nobody : (receiver : ℕ) → lookup key receiver cs ≡ None → (r : Refusal) (cs′ : List Customer) → r ≡ cond (leb (c .mark + c .transit) most-mark) NoReceiver Spoiled → cs′ ≡ cond (leb (c .mark + c .transit) most-mark) (remarked cs c (c .mark + c .transit) 0) cs → Lands cs p receiver (Err r) cs′
-    land-nobody receiver f = land-home receiver NoReceiver refl (rw (carries, f) refl)
-
     module _ (receiver : ℕ) (d : Customer) (f : lookup key receiver cs ≡ Some d) where
       receiver-is : customer cs receiver ≡ d
       receiver-is = customer-is cs receiver d f
-
-      pub land-same : receiver ≡ p .giver → (r : Refusal) (cs′ : List Customer) → r ≡ cond (leb (c .mark + c .transit) most-mark) SameCustomer Spoiled → cs′ ≡ cond (leb (c .mark + c .transit) most-mark) (remarked cs c (c .mark + c .transit) 0) cs → Lands cs p receiver (Err r) cs′
-      land-same s = land-home receiver SameCustomer refl (rw (carries, ap isSome f, eq-eqb receiver (p .giver) s) refl)
 
       module _ (ne : receiver ≡ p .giver → ⊥) where
         pub land-spoiled : most-mark < d .mark + c .transit → Lands cs p receiver (Err Spoiled) cs

@@ -1,7 +1,6 @@
 -- What an answer says of the questions of a call.
-use mathlib.Core.Path.{_≡_, refl, sym, ap, _∙_}
+use mathlib.Core.Path.{_≡_, refl, sym, ap}
 use mathlib.Core.Bool.{Bool, true, false, cond}
-use mathlib.Core.List.{List, [], _∷_}
 use Prim.Native.Nat.{ℕ}
 use native.Mathlib.Omega.{arith}
 use Rattle.std.specs.Options.{isSome, valueOr}
@@ -10,7 +9,7 @@ use Rattle.std.specs.declared.option.Option.the-variants.{Some, None}
 use Rattle.std.specs.declared.result.Result.{Result}
 use Rattle.std.specs.declared.result.Result.the-variants.{Ok, Err}
 use Rattle.book.specs.declared.refusal.Refusal.{Refusal}
-use Rattle.book.specs.Answers.{first, told}
+use Rattle.book.specs.Answers.{told}
 use Rattle.book.specs.Rates.{staged}
 use Rattle.runs.specs.History.{refused}
 
@@ -49,9 +48,3 @@ accepted x y o e = told-ok y x o e .0
 
 pub denied : {X : Type 0} (x : X) (d : Refusal) (o : Option Refusal) → Err d ≡ told x o → o ≡ Some d
 denied x d o e = sym (refused-told (Err d) x o e)
-
-pub moved-on : {A B : Type 0} (a : A) (b b′ : B) (o : Option Refusal) → Ok b′ ≡ staged a b o → b′ ≡ b
-moved-on a b b′ o e = staged-ok a b b′ o e .1
-
-pub stayed : {A B : Type 0} (a a′ : A) (b : B) (d : Refusal) (o : Option Refusal) → Err (a′, d) ≡ staged a b o → a′ ≡ a
-stayed a a′ b d o e = staged-err a a′ b d o e .1

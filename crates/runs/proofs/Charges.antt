@@ -35,11 +35,11 @@ use Rattle.book.specs.Customers.{nobody}
 use Rattle.book.specs.Sides.{side, cost, most-cents}
 use Rattle.book.specs.Rates.{Meaning, passes, size, like, part, written, divisible, pool-in, no-cost, charges-of, cost-in, weights-in, bill-asks, Bills}
 use Rattle.runs.specs.History.{Event, billing, refusal, lines-of, cost-by, expenses, credits, Billed}
-use Rattle.runs.specs.Runs.{Stage, open-book, shut-book, World, Step, grant, lift, land, return, post, strike, stay, close, bill, Within-one, sumℤ, charges-in, all-charges, Paid, Lawful-meaning}
+use Rattle.runs.specs.Runs.{Within-one, sumℤ, charges-in, all-charges, Paid, Lawful-meaning}
 use Rattle.runs.proofs.Asked.{accepted, denied}
-use Rattle.runs.proofs.Lines.{Lines-kept, Lines-at, cost-is, costs-together}
+use Rattle.runs.proofs.Lines.{Lines-kept, cost-is, costs-together}
 use Rattle.runs.proofs.Near.{size-minus, within-one-like, like-sum, like-size}
-use Rattle.runs.proofs.Places.{length-written, part-same, part-before, part-behind}
+use Rattle.runs.proofs.Places.{part-same, part-before, part-behind}
 use Rattle.runs.proofs.Pools.{same-pool}
 
 -- What every closed book's customers keep: these bounds, within which no bill is too large.
@@ -188,9 +188,6 @@ module _ {D : Type 0} (m : D → Meaning) (c : ClosedBook D) (cs : List Customer
     end : order (pool-in letter) * length cs + length out ≤ length ch
     end = omega (arith, room, length-out, apart (order (pool-in letter)) 4 (length cs) (below-four (pool-in letter)))
 
-    pub length-billed : length ch′ ≡ length ch
-    length-billed = ap length after ∙ length-written ch (order (pool-in letter) * length cs) out end
-
     own : charges-in (pool-in letter) (length cs) ch′ ≡ out
     own =
         let from = order (pool-in letter) * length cs in
@@ -235,37 +232,6 @@ module _ {D : Type 0} (m : D → Meaning) (c : ClosedBook D) (cs : List Customer
       (cases-eq (order p) (order q))
   bill-keeps fair (Err e) s es before p (inl names) = absurd (let z : _≡_ {A = ℕ} 0 1 = cc in omega arith)
   bill-keeps fair (Err e) s es before p (inr billed) = rw (refused-leaves s) (before p billed)
-
--- Before the close no pool is billed; after it each billed pool is paid.
-abbrev pub Charges-of : {D : Type 0} → List Event → Stage D → List Customer → List ℤ → Type 0
-Charges-of es (open-book b) cs ch = (p : Pool) → Billed p es → ⊥
-Charges-of es (shut-book c) cs ch = (p : Pool) → Billed p es → Paid p (cost (c .costs) (c .credits) p) cs ch
-
-abbrev pub Charges-at : {D : Type 0} → List Event → World D → Type 0
-Charges-at es w = Charges-of es (w .stage) (w .customers) (w .charges)
-
-abbrev pub Bounded-at : {D : Type 0} → Stage D → List Customer → Type 0
-Bounded-at (open-book b) cs = Unit {0}
-Bounded-at (shut-book c) cs = Bounded cs
-
--- A call that bills none leaves it so.
-unbilled : (es : List Event) → ((p : Pool) → Billed p es → ⊥) → (p : Pool) → (None ≡ Some p) ⊎ Billed p es → ⊥
-unbilled es before p (inl names) = let z : _≡_ {A = ℕ} 0 1 = cc in omega arith
-unbilled es before p (inr billed) = before p billed
-
-module _ {D : Type 0} (m : D → Meaning) (fair : (d : D) → Lawful-meaning (m d)) where
-  -- Every call keeps it.
-  pub step-keeps-charges : {w w′ : World D} {e : Event} {es : List Event} → Step m w e w′ → Bounded-at (w .stage) (w .customers) → Lines-at es w → Charges-at es w → Charges-at (e ∷ es) w′
-  step-keeps-charges {es = es} (grant g) bounded kept before = unbilled es before
-  step-keeps-charges {es = es} (lift l) bounded kept before = unbilled es before
-  step-keeps-charges {es = es} (land l) bounded kept before = unbilled es before
-  step-keeps-charges {es = es} (return l) bounded kept before = unbilled es before
-  step-keeps-charges {es = es} (post s) bounded kept before = unbilled es before
-  step-keeps-charges {es = es} (strike s) bounded kept before = unbilled es before
-  step-keeps-charges {es = es} (stay ws ss ws′ ss′ s) bounded kept before = unbilled es before
-  step-keeps-charges {es = es} (close ws ss ws′ ss′ s) bounded kept before = λ p billed. absurd (unbilled es before p billed)
-  step-keeps-charges {es = es} (bill {c = c} {cs = cs} {r = r} ws ss ws′ ss′ s) bounded kept before =
-      bill-keeps m c cs bounded (kept .within) fair r s es before
 
 -- A pool is paid by the sides as by the history's lines.
 pub paid-by-lines : {es : List Event} {costs credits : Sides} {ls : List CostLine} {cs : List Customer} {ch : List ℤ} → Lines-kept es costs credits ls → (p : Pool) → Paid p (cost costs credits p) cs ch → Paid p (cost-by (lines-of es) p) cs ch

@@ -2,15 +2,15 @@
 use mathlib.Core.Path.{_≡_, refl, sym, ap, _∙_}
 use mathlib.Core.Bool.{true, cond}
 use mathlib.Core.List.{List, [], _∷_, map}
-use Prim.Native.Nat.{ℕ, _+_, _*_, _<_, _≤_}
+use Prim.Native.Nat.{ℕ, _*_, _<_, _≤_}
 use native.Mathlib.Nat.{mul-le-mul}
 use native.Mathlib.Omega.{arith}
 use lib.ListN.{length, length-map}
 use Rattle.std.specs.declared.option.Option.the-variants.{Some, None}
 use Rattle.std.specs.declared.result.Result.the-variants.{Ok, Err}
-use Rattle.std.specs.shelf.Lists.{All, sum, sumBy}
+use Rattle.std.specs.shelf.Lists.{All, sumBy}
 use Rattle.std.proofs.shelf.Sums.{sumBy-le}
-use Rattle.std.proofs.shelf.Tests.{and-parts, and-from, leb-true, le-leb, ltb-true}
+use Rattle.std.proofs.shelf.Tests.{and-from, le-leb}
 use Rattle.std.proofs.shelf.Ways.{tells}
 use Rattle.register.specs.Records.{added}
 use Rattle.register.proofs.Every.{all-added}
@@ -27,7 +27,7 @@ use Rattle.book.specs.Books.{opened}
 use Rattle.book.specs.Customers.{key, entered, in-ranges, enter-asks, marked, founded-by, with-shares}
 use Rattle.book.specs.Rates.{Meaning, divisible, passes, found-asks, Founds}
 use Rattle.book.specs.Sides.{no-sides}
-use Rattle.runs.specs.Runs.{Entered, bare, none, used, one-more, held, on-the-way, Lawful-meaning}
+use Rattle.runs.specs.Runs.{Entered, bare, none, used, one-more, Lawful-meaning}
 use Rattle.runs.proofs.Asked.{first-yes, told-ok, staged-ok, staged-err}
 use Rattle.book.proofs.Portions.{length-with}
 use Rattle.runs.proofs.Written.{all-written, sumBy-made, sumBy-zero, divisible-passes}

@@ -1,38 +1,28 @@
 -- Every run of a founded book is sound: by induction over its calls.
-use mathlib.Core.Path.{_≡_, refl, sym, ap, subst, _∙_}
-use mathlib.Core.Logic.{_⊎_, inl, inr}
-use mathlib.Core.Bool.{Bool, true, false, cond}
+use mathlib.Core.Path.{_≡_, refl, ap, _∙_}
+use mathlib.Core.Logic.{inl, inr}
+use mathlib.Core.Bool.{Bool, cond}
 use mathlib.Core.List.{List, [], _∷_}
 use Prim.Native.Nat.{ℕ, _+_, _<_, _≤_}
 use native.Mathlib.Omega.{arith}
-use lib.IntN.{ℤ, pos, _-ℤ_}
-use lib.ListN.{length}
+use lib.IntN.{ℤ}
 use Rattle.std.specs.Results.{isOk}
-use Rattle.std.specs.declared.option.Option.{Option}
 use Rattle.std.specs.declared.option.Option.the-variants.{Some, None}
-use Rattle.std.specs.declared.result.Result.{Result}
-use Rattle.std.specs.declared.result.Result.the-variants.{Ok, Err}
 use Rattle.std.specs.shelf.Lists.{All}
 use Rattle.std.proofs.shelf.Tests.{cond-both}
 use Rattle.records.specs.declared.customer.Customer.{Customer}
 use Rattle.records.specs.declared.cost_line.CostLine.{CostLine}
 use Rattle.records.specs.declared.pool.Pool.{Pool}
 use Rattle.records.specs.declared.pool.Pool.the-variants.{Composite, NonSlice, Slice, Tier2}
-use Rattle.book.specs.declared.figures.Posting.{Posting}
-use Rattle.book.specs.declared.refusal.Refusal.{Refusal}
 use Rattle.book.specs.declared.refusal.Refusal.the-variants.{Spoiled}
-use Rattle.book.specs.declared.sides.Sides.{Sides}
-use Rattle.book.specs.declared.stages.Intake.{Intake}
 use Rattle.book.specs.declared.stages.OpenBook.{OpenBook}
 use Rattle.book.specs.declared.stages.ClosedBook.{ClosedBook}
 use Rattle.book.specs.Sides.{cost}
-use Rattle.book.specs.Marks.{Grants}
-use Rattle.book.specs.Lines.{Posts, Strikes}
-use Rattle.book.specs.Rates.{Meaning, Bills}
-use Rattle.runs.specs.History.{Event, granting, lifting, landing, returning, posting, striking, staying, closing, billing, refusal, grants, lines-of, bill-of, cost-by, expenses, credits, Billed}
-use Rattle.runs.specs.Runs.{Always-sound, Stage, open-book, shut-book, World, at, Step, grant, lift, land, return, post, strike, stay, close, bill, Run, start, next, held, on-the-way, Rated, Paid, all-charges, Closing, Sound, Lawful-meaning, Books-stay-sound}
-use Rattle.runs.proofs.Founding.{Starts, found-starts}
-use Rattle.runs.proofs.Marks.{Marks-kept, Small, same-marks, grant-keeps, grant-unspoiled, lift-keeps, lift-unspoiled, land-keeps, land-unspoiled, return-keeps, return-unspoiled}
+use Rattle.book.specs.Rates.{Meaning}
+use Rattle.runs.specs.History.{Event, closing, refusal, grants, lines-of, bill-of, cost-by, credits, Billed}
+use Rattle.runs.specs.Runs.{Always-sound, Stage, open-book, shut-book, World, at, Step, grant, lift, land, return, post, strike, stay, close, bill, Run, start, next, held, on-the-way, Rated, Paid, Closing, Lawful-meaning, Books-stay-sound}
+use Rattle.runs.proofs.Founding.{found-starts}
+use Rattle.runs.proofs.Marks.{Marks-kept, same-marks, grant-keeps, grant-unspoiled, lift-keeps, lift-unspoiled, land-keeps, land-unspoiled, return-keeps, return-unspoiled}
 use Rattle.runs.proofs.Lines.{Lines-kept, none-kept, others-keep, post-keeps, post-unspoiled, strike-keeps, strike-unspoiled}
 use Rattle.runs.proofs.Charges.{Bounded, bill-keeps, bill-unspoiled, paid-by-lines, all-paid}
 use Rattle.runs.proofs.Rates.{stay-same, stay-unspoiled, close-shuts, close-keeps}

@@ -16,7 +16,6 @@ use Rattle.register.specs.Records.{lookup, added, without, InOrder}
 use Rattle.register.proofs.Sums.{sumBy-added, sumBy-without}
 use Rattle.register.proofs.Order.{ordered-added, ordered-without, lookup-without-same}
 use Rattle.register.proofs.Lookups.{lookup-key}
-use Rattle.records.specs.declared.customer.Customer.{Customer}
 use Rattle.records.specs.declared.cost_line.CostLine.{CostLine}
 use Rattle.records.specs.declared.cost_line.Entry.{Entry}
 use Rattle.records.specs.declared.cost_line.Entry.the-variants.{Expense, Credit, Shift}
@@ -29,13 +28,9 @@ use Rattle.book.specs.declared.refusal.Refusal.{Refusal}
 use Rattle.book.specs.declared.refusal.Refusal.the-variants.{Spoiled}
 use Rattle.book.specs.declared.stages.OpenBook.{OpenBook}
 use Rattle.book.specs.Sides.{side, no-sides, most-cents, cost, all-stay, posted-costs, posted-credits, struck-costs, struck-credits}
-use Rattle.book.specs.Books.{closed}
-use Rattle.book.specs.Marks.{Grants}
-use Rattle.book.specs.Rates.{Meaning, close-asks}
 use Rattle.book.specs.Lines.{key, entry-in, new-line, post-asks, Posts, cost-line, strike-asks, Strikes}
-use Rattle.runs.specs.Runs.{Stage, open-book, shut-book, World, Step, grant, lift, land, return, post, strike, stay, close, bill}
 use Rattle.runs.specs.History.{Event, posting, striking, refusal, among, drawn, lines-of, cost-by, expense-in, credit-in, expenses, credits}
-use Rattle.runs.proofs.Asked.{accepted, denied, moved-on, stayed}
+use Rattle.runs.proofs.Asked.{accepted, denied}
 use Rattle.runs.proofs.Pools.{side-posted-costs, side-posted-credits, side-struck-costs, side-struck-credits, all-stay-so, all-hold-so}
 
 -- What a line has of the cost side, and of the credit side, of a pool.
@@ -208,36 +203,3 @@ costs-together ls =
     four-costs (cs Composite) (cs NonSlice) (cs Slice) (cs Tier2) (ds Composite) (ds NonSlice) (ds Slice) (ds Tier2) (expenses ls) (credits ls) (sumBy moved ls)
     (four-sums (cost-part Composite) (cost-part NonSlice) (cost-part Slice) (cost-part Tier2) spent moved (λ l. entry-costs (l .entry) (l .cents)) ls)
     (four-sums (credit-part Composite) (credit-part NonSlice) (credit-part Slice) (credit-part Tier2) earned moved (λ l. entry-credits (l .entry) (l .cents)) ls)
-
--- The sides of a book at either stage.
-abbrev pub costs-at : {D : Type 0} → Stage D → Sides
-costs-at (open-book b) = b .costs
-costs-at (shut-book c) = c .costs
-
-abbrev pub credits-at : {D : Type 0} → Stage D → Sides
-credits-at (open-book b) = b .credits
-credits-at (shut-book c) = c .credits
-
-abbrev pub Lines-at : {D : Type 0} → List Event → World D → Type 0
-Lines-at es w = Lines-kept es (costs-at (w .stage)) (credits-at (w .stage)) (w .lines)
-
--- A grant leaves the sides.
-granted-sides : {D : Type 0} {b b′ : OpenBook D} {cs cs′ : List Customer} {number load : ℕ} (r : Result (Unit {0}) Refusal) → Grants b cs number load r b′ cs′ → (b′ .costs ≡ b .costs) × (b′ .credits ≡ b .credits)
-granted-sides {D} (Ok u) g = (ap (λ (x : OpenBook D). x .costs) (g .book), ap (λ (x : OpenBook D). x .credits) (g .book))
-granted-sides {D} (Err e) g = (ap (λ (x : OpenBook D). x .costs) (g .book), ap (λ (x : OpenBook D). x .credits) (g .book))
-
-module _ {D : Type 0} (m : D → Meaning) where
-  -- Every call keeps it.
-  pub step-keeps-lines : {w w′ : World D} {e : Event} {es : List Event} → Step m w e w′ → Lines-at es w → Lines-at (e ∷ es) w′
-  step-keeps-lines (grant {r = r} g) kept =
-      let same = granted-sides r g in rw (same .0, same .1) (others-keep (λ struck. refl) kept)
-  step-keeps-lines (lift l) kept = others-keep (λ struck. refl) kept
-  step-keeps-lines (land l) kept = others-keep (λ struck. refl) kept
-  step-keeps-lines (return l) kept = others-keep (λ struck. refl) kept
-  step-keeps-lines (post {number = number} {p = p} {cents = cents} {r = r} s) kept = post-keeps kept number p cents r s
-  step-keeps-lines (strike {number = number} {r = r} s) kept = strike-keeps kept number r s
-  step-keeps-lines (stay {b = b} {b′ = b′} {cs = cs} {e = e} ws ss ws′ ss′ s) kept =
-      rw (stayed b b′ (closed b) e (close-asks m b cs ws ss) (s .answer)) (others-keep (λ struck. refl) kept)
-  step-keeps-lines (close {b = b} {c = c} {cs = cs} ws ss ws′ ss′ s) kept =
-      rw (moved-on b (closed b) c (close-asks m b cs ws ss) (s .answer)) (others-keep (λ struck. refl) kept)
-  step-keeps-lines (bill ws ss ws′ ss′ s) kept = others-keep (λ struck. refl) kept

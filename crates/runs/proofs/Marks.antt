@@ -1,14 +1,12 @@
 -- What an open book's customers keep along a run.
 use mathlib.Core.Path.{_≡_, refl, sym, ap, subst, _∙_}
-use mathlib.Core.Bool.{Bool, true, false, cond, not, _||_}
-use mathlib.Core.List.{List, [], _∷_, map}
-use mathlib.Core.Logic.{_⊎_, inl, inr}
+use mathlib.Core.Bool.{true, _||_}
+use mathlib.Core.List.{List, [], _∷_}
 use Prim.Native.Nat.{ℕ, _+_, _-_, _<_, _≤_}
 use native.Mathlib.Omega.{arith}
-use lib.Dec.{eqb, ltb, leb}
+use lib.Dec.{eqb, leb}
 use lib.ListN.{length}
-use Rattle.std.specs.Options.{isSome, valueOr}
-use Rattle.std.specs.Results.{isOk}
+use Rattle.std.specs.Options.{valueOr}
 use Rattle.std.specs.Finite as finite
 use Rattle.std.specs.declared.option.Option.{Option}
 use Rattle.std.specs.declared.option.Option.the-variants.{Some, None}
@@ -16,7 +14,7 @@ use Rattle.std.specs.declared.result.Result.{Result}
 use Rattle.std.specs.declared.result.Result.the-variants.{Ok, Err}
 use Rattle.std.specs.shelf.Lists.{All, sumBy}
 use Rattle.std.proofs.shelf.Sums.{sumBy-cons}
-use Rattle.std.proofs.shelf.Tests.{cases-bool, cond-both, cond-true, cond-false, ltb-true, leb-true, le-leb, eqb-true, eqb-false, not-true}
+use Rattle.std.proofs.shelf.Tests.{cond-both, le-leb}
 use Rattle.std.proofs.shelf.Ways.{tells}
 use Rattle.register.specs.Records.{lookup, replaced}
 use Rattle.register.proofs.Every.{all-replaced, all-lookup}
@@ -25,12 +23,12 @@ use Rattle.register.proofs.Sums.{sumBy-replaced}
 use Rattle.records.specs.declared.customer.Customer.{Customer}
 use Rattle.book.specs.declared.parcel.Parcel.{Parcel}
 use Rattle.book.specs.declared.refusal.Refusal.{Refusal}
-use Rattle.book.specs.declared.refusal.Refusal.the-variants.{Missing, NoLoad, OverGranted, Spoiled, AlreadyLifted, OverMark, NotOnTheWay, NoReceiver, SameCustomer}
+use Rattle.book.specs.declared.refusal.Refusal.the-variants.{Spoiled}
 use Rattle.book.specs.declared.stages.OpenBook.{OpenBook}
-use Rattle.book.specs.Answers.{number, first, told}
+use Rattle.book.specs.Answers.{number}
 use Rattle.book.specs.Customers.{key, nobody, customer, stands, marked}
-use Rattle.book.specs.Marks.{most-granted, most-mark, remarked, carried, home, home-fits, moved, sent-home, landed, grant-asks, lift-asks, land-asks, return-asks, Grants, Lifts, Lands, Returns}
-use Rattle.runs.specs.History.{Event, granting, lifting, landing, returning, refusal, refused, grant-of, grants}
+use Rattle.book.specs.Marks.{most-granted, most-mark, remarked, carried, home, moved, landed, grant-asks, lift-asks, land-asks, return-asks, Grants, Lifts, Lands, Returns}
+use Rattle.runs.specs.History.{Event, granting, lifting, landing, returning, refusal, grant-of, grants}
 use Rattle.runs.specs.Runs.{held, on-the-way}
 use Rattle.runs.proofs.Asked.{some-value, told-ok, refused-told}
 

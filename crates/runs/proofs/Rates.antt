@@ -1,20 +1,19 @@
 -- Closing: what a refused close leaves, and what an accepted one writes.
-use mathlib.Core.Path.{_≡_, refl, sym, ap, _∙_}
+use mathlib.Core.Path.{_≡_, refl, ap, _∙_}
 use mathlib.Core.Bool.{true, cond}
-use mathlib.Core.List.{List, [], _∷_, map}
-use Prim.Native.Nat.{ℕ, _+_, _*_, _<_, _≤_}
+use mathlib.Core.List.{List, _∷_, map}
+use Prim.Native.Nat.{ℕ, _*_, _<_, _≤_}
 use native.Mathlib.Nat.{mul-comm, mul-le-mul}
 use native.Mathlib.Omega.{arith}
-use lib.IntN.{pos}
 use lib.ListN.{length, getD, length-map}
 use Rattle.std.specs.declared.option.Option.the-variants.{Some, None}
 use Rattle.std.specs.declared.result.Result.the-variants.{Ok, Err}
-use Rattle.std.specs.shelf.Lists.{All, sum, sumBy}
+use Rattle.std.specs.shelf.Lists.{All, sumBy}
 use Rattle.std.proofs.shelf.Lists.{getD-map}
 use Rattle.std.proofs.shelf.Sums.{sum-map}
 use Rattle.std.proofs.shelf.Tests.{and-from, le-leb}
 use Rattle.std.proofs.shelf.Ways.{tells}
-use Rattle.divider.specs.Questions.{limit, Passes}
+use Rattle.divider.specs.Questions.{limit}
 use Rattle.divider.specs.Shares.{Near}
 use Rattle.records.specs.declared.customer.Customer.{Customer}
 use Rattle.book.specs.declared.refusal.Refusal.{Refusal}
@@ -25,7 +24,7 @@ use Rattle.book.specs.Books.{closed}
 use Rattle.book.specs.Customers.{nobody, rated, rated-by, with-shares}
 use Rattle.book.specs.Rates.{Meaning, divisible, passes, close-asks, Closes}
 use Rattle.runs.specs.History.{Event, staying, closing, refusal}
-use Rattle.runs.specs.Runs.{held, on-the-way, Within-one, Rated, Lawful-meaning}
+use Rattle.runs.specs.Runs.{held, on-the-way, Rated, Lawful-meaning}
 use Rattle.runs.proofs.Asked.{staged-ok, staged-err}
 use Rattle.runs.proofs.Near.{within-one}
 use Rattle.book.proofs.Portions.{length-with}

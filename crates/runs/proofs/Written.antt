@@ -1,11 +1,11 @@
 -- Shares that are written into the records, each into the one at its place.
-use mathlib.Core.Path.{_≡_, refl, sym, ap, _∙_}
+use mathlib.Core.Path.{_≡_, refl}
 use mathlib.Core.Bool.{true}
 use mathlib.Core.List.{List, [], _∷_, map}
-use Prim.Native.Nat.{ℕ, zero, suc, _+_, _*_, _<_, _≤_}
+use Prim.Native.Nat.{ℕ, zero, suc, _*_, _<_}
 use native.Mathlib.Omega.{arith}
 use lib.ListN.{length, getD}
-use Rattle.std.specs.shelf.Lists.{All, sum, sumBy}
+use Rattle.std.specs.shelf.Lists.{All, sumBy}
 use Rattle.std.proofs.shelf.Sums.{sumBy-cons, sum-map}
 use Rattle.std.proofs.shelf.Tests.{and-parts, leb-true}
 use Rattle.divider.specs.Questions.{limit, Passes}

@@ -18,7 +18,6 @@ use Rattle.sharing.specs.declared.rule.Rule.the-variants.{Largest, Running}
 use Rattle.sharing.specs.Table.{by-rule}
 use Rattle.records.specs.declared.customer.Customer.{Customer}
 use Rattle.records.specs.Figures.{founding-weight}
-use Rattle.book.specs.declared.figures.Figures.{Figures}
 use Rattle.book.specs.declared.refusal.Refusal as book
 use Rattle.book.specs.declared.refusal.Refusal.the-variants.{OverMark, NoReceiver}
 use Rattle.book.specs.Customers.{customer, entered, founded-by}

@@ -1,5 +1,4 @@
 use Rattle.std.proofs.shelf.Tests.{lt-leb}
-use native.Mathlib.Omega.{arith}
 use Prim.Native.Nat.{_+_}
 use mathlib.Core.Path.{refl}
 use Rattle.register.proofs.Change.{kept-same}

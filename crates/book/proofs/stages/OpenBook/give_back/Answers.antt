@@ -1,5 +1,4 @@
-use mathlib.Core.Path.{_≡_, _∙_}
-use native.Mathlib.Omega.{arith}
+use mathlib.Core.Path.{_∙_}
 use Rattle.register.specs.Register.{records}
 use Rattle.register.proofs.Change.{kept-same}
 use Rattle.book.specs.Customers.{key}

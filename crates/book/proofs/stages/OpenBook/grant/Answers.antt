@@ -1,10 +1,10 @@
-use mathlib.Core.Path.{_≡_, _∙_}
+use mathlib.Core.Path.{_∙_}
 use native.Mathlib.Omega.{arith}
 use Rattle.std.proofs.shelf.Results.{err-from-errBy}
 use Rattle.register.specs.Register.{records}
 use Rattle.register.proofs.Change.{kept-same}
 use Rattle.book.specs.Customers.{key}
-use Rattle.book.proofs.Transfers.{grant-missing, grant-nothing, grant-over, grant-spoiled, grant-done}
+use Rattle.book.proofs.Transfers.{grant-missing, grant-nothing, grant-over, grant-spoiled}
 use Rattle.book.proofs.stages.OpenBook.grant.Needs as need
 use Rattle.book.proofs.stages.OpenBook.grant.Needs.{then-load-gt-MOST-GRANTED·by·then-load-gt-MOST-GRANTED, then-load-gt-MOST-GRANTED·by·else-load-gt-MOST-GRANTED·then-self-load}
 

@@ -1,5 +1,4 @@
-use mathlib.Core.Path.{_≡_, sym, ap, _∙_}
-use native.Mathlib.Omega.{arith}
+use mathlib.Core.Path.{sym, ap, _∙_}
 use Rattle.register.specs.Register.{records}
 use lib.ListN.{length}
 use Rattle.register.specs.Records.{replaced}
