@@ -4,6 +4,8 @@
 //! A book holds its divider and plain numbers. The registers of customers and
 //! cost lines, and the sheets, are given to each call. A call that refuses
 //! leaves all of them as they were, but for landings that send their load home.
+#![tactic(auto)]
+
 ghost use Rattle.std.specs.Prelude.{◌≡◌};
 ghost use Rattle.book.specs.Answers.{number, of_register};
 

@@ -3,6 +3,8 @@
 //! A divider is given a total and a list of weights, and fills a sheet with
 //! one share for each weight. The trait says what all dividers have in common;
 //! code over a `D: Divider` is proved once, for every one of them.
+#![tactic(auto)]
+
 ghost use Rattle.std.specs.Prelude.{◌≡◌, ℕ, List, sum};
 ghost use Rattle.divider.specs.Questions.{number, Passes, Weighed, Divided};
 ghost use Rattle.divider.specs.Shares.{Fair};

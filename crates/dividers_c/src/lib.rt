@@ -4,6 +4,8 @@
 //! pointer and then a length. It answers 0 where the sheet holds the shares,
 //! else the number of the first question that fails (40, 41 or 42), and then
 //! the sheet is as it was. No memory is allocated.
+#![tactic(auto)]
+
 ghost use Rattle.largest.specs.Largest.{by_remainders};
 ghost use Rattle.running.specs.Running.{by_running};
 ghost use Rattle.dividers_c.specs.Answers.{Answered};
@@ -14,7 +16,7 @@ use running::RunningSums;
 
 // Divides, and answers by a number.
 fn answer<D: Divider>(divider: &D, total: u64, weights: &[u64], sheet: &mut [u64]) -> u8
-    ensures { Answered total weights.now (meaning divider.now total weights.now) sheet.old sheet.new result }
+    ensures { Answered total weights.now (D.Divider.meaning divider.now total weights.now) sheet.old sheet.new result }
 {
     match divider.divide(total, weights, sheet) {
         Ok(()) => 0,

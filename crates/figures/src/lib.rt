@@ -1,4 +1,6 @@
 //! Figures: whole numbers as people type them, in decimal digits with no leading zero.
+#![tactic(auto)]
+
 ghost use Rattle.std.specs.Prelude.{◌≡◌, ◌<◌, IfOk, decimal};
 ghost use Rattle.figures.specs.Figure.{number, figure, appended};
 

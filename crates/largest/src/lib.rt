@@ -5,6 +5,8 @@
 //! where the unit is a power of two above the total. The smallest remainder
 //! that is served is found by bisection, so that a division takes one
 //! division for each weight and at most log2 (sum) passes over the sheet.
+#![tactic(auto)]
+
 ghost use Rattle.std.specs.Prelude.{◌≡◌, ℕ, ◌+◌, ◌*◌, ◌^◌, ◌<◌, ◌≤◌, List, map, length, count_by, nat_le};
 ghost use Rattle.largest.specs.Largest.{left_over, by_remainders};
 ghost use Rattle.largest.specs.Packing.{packed, reached, raised, share_of, Ready, Divides};

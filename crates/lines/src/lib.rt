@@ -1,4 +1,6 @@
 //! Lines of a page, without their end byte: a reader and a writer, and the round trip.
+#![tactic(auto)]
+
 mod asking;
 mod fault;
 mod forms;

@@ -1,4 +1,5 @@
 //! Tests of lines on examples.
+#![tactic(auto)]
 
 #[cfg(test)]
 mod tests {

@@ -1,4 +1,6 @@
 //! The listing of a closed book: a row for each customer, and the sums.
+#![tactic(auto)]
+
 mod fields;
 mod refusal;
 mod rows_of;

@@ -1,4 +1,6 @@
 //! A page of lines, from its bytes to a closed and billed book, or to its fault.
+#![tactic(auto)]
+
 mod acting;
 mod fault;
 mod settling;

@@ -1,4 +1,5 @@
 //! Tests of pages on examples: the worked figures, and each fault by its row.
+#![tactic(auto)]
 
 #[cfg(test)]
 mod tests {

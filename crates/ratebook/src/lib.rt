@@ -1,5 +1,7 @@
 //! A page program: a page on standard input, its listing or its fault on
 //! standard output, and a sentence for people on standard error.
+#![tactic(auto)]
+
 mod listing_of;
 mod reading;
 mod sentence;

@@ -1,4 +1,6 @@
 //! Bills a page by largest remainder.
+#![tactic(auto)]
+
 use largest::LargestRemainder;
 
 fn main(rt: HostRuntime) -> anyhow::Result<()> {

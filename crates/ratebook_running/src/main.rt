@@ -1,4 +1,6 @@
 //! Bills a page by running sums.
+#![tactic(auto)]
+
 use running::RunningSums;
 
 fn main(rt: HostRuntime) -> anyhow::Result<()> {

@@ -1,4 +1,6 @@
 //! The records that a rate book keeps, and the figures that are drawn from them.
+#![tactic(auto)]
+
 mod cost_line;
 mod customer;
 mod figures;

@@ -5,6 +5,8 @@
 //! them. A record that is added or removed moves those behind it by one place;
 //! all other places of the memory keep what they held. A call that refuses
 //! changes nothing.
+#![tactic(auto)]
+
 ghost use Rattle.std.specs.Prelude.{◌≡◌, ℕ, min, [], length, take, is_ok, if◌then◌else◌, ◌==◌};
 ghost use Rattle.register.specs.Records.{lookup, added, without, replaced, lookup_at, replaced_at};
 ghost use Rattle.register.specs.Register.{memory, usable, room, records, Placed, Sought, Admitted, Untouched, Kept};

@@ -8,7 +8,7 @@ use super::Keyed;
 
 /// How many records stand before the first one of the number; all, where none has it.
 pub(crate) fn place_of<R: Keyed>(records: &[R], number: u32) -> usize
-    ensures { result ≡ place_of key number records.now }
+    ensures { result ≡ place_of R.Keyed.key number records.now }
 {
     for (i, row) in records.iter().enumerate() {
         if row.number() == number {
@@ -20,7 +20,7 @@ pub(crate) fn place_of<R: Keyed>(records: &[R], number: u32) -> usize
 
 /// How many records stand before the first one of a higher number; all, where none has one.
 pub(crate) fn place_for<R: Keyed>(records: &[R], number: u32) -> usize
-    ensures { result ≡ place_for key number records.now }
+    ensures { result ≡ place_for R.Keyed.key number records.now }
 {
     for (i, row) in records.iter().enumerate() {
         if row.number() > number {

@@ -1,4 +1,5 @@
 //! Tests of registers on examples.
+#![tactic(auto)]
 
 #[cfg(test)]
 mod tests {

@@ -1,4 +1,6 @@
 //! Rows of text: bytes parted at a separator, and fields joined by commas.
+#![tactic(auto)]
+
 mod field;
 mod parting;
 mod writing;

@@ -1,4 +1,6 @@
 //! Running sums: each share is what the total's running quotient gains at its place.
+#![tactic(auto)]
+
 ghost use Rattle.running.specs.Running.{by_running};
 ghost use Rattle.running.specs.RunningLemmas.{running_fair};
 

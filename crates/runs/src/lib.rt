@@ -1,5 +1,7 @@
 //! Runs of a book: any calls in any order, from founding on, and the law that
 //! holds after every one of them, under every divider within its laws.
+#![tactic(auto)]
+
 ghost use Rattle.std.specs.Prelude.{◌≡◌, MatchResult, ◌≢◌};
 ghost use Rattle.register.specs.Register.{records, Kept};
 ghost use Rattle.book.specs.Customers.{key};

@@ -1,4 +1,6 @@
 //! Shares a total out by weights: `share largest 101 50 30 20`.
+#![tactic(auto)]
+
 use anyhow::anyhow;
 use sharing::answer;
 use std::alloc::Global;

@@ -1,4 +1,6 @@
 //! A total shared out by weights, as a table that shows who got the odd units, and why.
+#![tactic(auto)]
+
 ghost use Rattle.std.specs.Prelude.{◌≡◌, ℕ, ◌≤◌, List, ◌++◌, map, length, IfOk, None, string_bytes, codes, sum_by, OnOk};
 ghost use Rattle.sharing.specs.declared.fault.Fault.TheVariants.{Division, NoMemory};
 ghost use Rattle.divider.specs.Shares.{whole, rest};
@@ -75,14 +77,20 @@ fn write_row(
     whole: u64,
     rest: u64,
     share: u64,
-) -> fmt::Result
+) -> Result<(), AllocError>
     ensures { OnOk result (string_bytes text.new ≡ string_bytes text.old ++ row place weight whole rest share) }
 {
     write!(text, "{place},{weight},{whole},{rest},{share}\n")
 }
 
 // Appends the sums under the table.
-fn write_sums(text: &mut String, weights: u64, wholes: u64, rests: u64, shares: u64) -> fmt::Result
+fn write_sums(
+    text: &mut String,
+    weights: u64,
+    wholes: u64,
+    rests: u64,
+    shares: u64,
+) -> Result<(), AllocError>
     ensures { OnOk result (string_bytes text.new ≡ string_bytes text.old ++ (codes "sum," ++ four weights wholes rests shares)) }
 {
     write!(text, "sum,{weights},{wholes},{rests},{shares}\n")
@@ -95,7 +103,7 @@ fn write_lines(
     sum: u64,
     weights: &[u64],
     shares: &[u64],
-) -> Result<(u64, u64), fmt::Error>
+) -> Result<(u64, u64), AllocError>
     requires { (Ready total sum weights.now) × (length shares.now ≡ length weights.now) }
     ensures { IfOk result (λ sums. (string_bytes text.new ≡ string_bytes text.old ++ lines total weights.now shares.now (length weights.now)) × (sums.0 ≡ sum_by (whole total sum) weights.now) × (sums.1 ≡ sum_by (rest total sum) weights.now)) }
 {

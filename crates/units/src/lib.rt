@@ -1,4 +1,6 @@
 //! The quantities of the rate book, each with its range in its type, and the one table of ranges.
+#![tactic(auto)]
+
 mod cents;
 mod header;
 mod load;

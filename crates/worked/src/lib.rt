@@ -3,6 +3,8 @@
 //! The table of them stands in specs/, and is proved of the same definitions
 //! that the contracts of the dividers and of the book cite; the tests run the
 //! code on the divisions.
+#![tactic(auto)]
+
 ghost use Rattle.worked.specs.Cases.{All_hold};
 
 use divider::{Divider, Refusal};

@@ -4,6 +4,8 @@
 //! It prints the marks after founding and after the transfers, how each call
 //! ended, and at last for each customer number, mark, RHWM, Above-RHWM load
 //! and the charges in C, N, S and T.
+#![tactic(auto)]
+
 use anyhow::anyhow;
 use book::{ClosedBook, Figures, Intake, OpenBook, Posting, Refusal};
 use largest::LargestRemainder;

@@ -22,6 +22,6 @@ pub returns : goal.returns
 returns c =
     let bs = c.args.bytes.now in
     let t = take_all c.loop-byte.byte-index bs c.loop-byte-test.false in
-    let some : 0 < length bs = omega (arith, eqb-false (length bs) 0 (sym c.if-is-empty.ensures)) in
-    let f = a_figure bs c.loop-byte.value c.ok-or.result some c.if-bytes-gt1.either (rw t at c.loop-byte.invariant.0) (rw t at c.loop-byte.invariant.1) c.ok-or.ensures.value in
+    let some : 0 < length bs = omega (arith, eqb-false (length bs) 0 (sym c.if-is_empty.ensures)) in
+    let f = a_figure bs c.loop-byte.value c.ok_or.result some c.if-bytes-gt1.either (rw t at c.loop-byte.invariant.0) (rw t at c.loop-byte.invariant.1) c.ok_or.ensures.value in
     record { reads = f.0; written = f.1 }

@@ -4,8 +4,8 @@ use Rattle.largest.proofs.Packed.{mark_below}
 use Rattle.largest.proofs.cut_at.Goals as goal
 use Rattle.largest.proofs.cut_at.Goals.{then-loop-served-test+else-high-low-gt1, else-loop-served-test}
 
-pub overflow-mul-middle : goal.overflow-mul-middle
-overflow-mul-middle c =
+pub overflow_mul-middle : goal.overflow_mul-middle
+overflow_mul-middle c =
     let m = mul-le (c.loop-served.low + (c.loop-served.high - c.loop-served.low) / 2) c.args.unit c.args.sum c.args.unit (omega arith) (omega arith) in
     omega arith
 

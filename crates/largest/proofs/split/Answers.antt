@@ -5,27 +5,27 @@ use Rattle.largest.specs.Packing.{packed}
 use Rattle.largest.proofs.Packed.{divisor, packed_fits, left_more, written_more}
 use Rattle.largest.proofs.split.Goals as goal
 
-pub overflow-mul-product : goal.overflow-mul-product
-overflow-mul-product c = omega (arith, product_le c.args.total c.args.weights.now c.loop-i.i c.requires.0.passes c.loop-i-test.true)
+pub overflow_mul-product : goal.overflow_mul-product
+overflow_mul-product c = omega (arith, product_le c.args.total c.args.weights.now c.loop-i.i c.requires.0.passes c.loop-i-test.true)
 
-pub overflow-mul-rest : goal.overflow-mul-rest
-overflow-mul-rest c =
+pub overflow_mul-rest : goal.overflow_mul-rest
+overflow_mul-rest c =
     let p = product_le c.args.total c.args.weights.now c.loop-i.i c.requires.0.passes c.loop-i-test.true in
     let d = div-add-mod' (c.args.total * get_or c.args.weights.now c.loop-i.i 0) c.args.sum in
     omega arith
 
-pub overflow-mul-sheet : goal.overflow-mul-sheet
-overflow-mul-sheet c =
+pub overflow_mul-sheet : goal.overflow_mul-sheet
+overflow_mul-sheet c =
     let f = packed_fits c.args.total c.args.sum c.args.unit c.args.weights.now c.requires.0 c.loop-i.i c.loop-i-test.true in
     rw (rest_is (c.args.total * get_or c.args.weights.now c.loop-i.i 0) c.args.sum) (omega arith)
 
-pub overflow-add-sheet : goal.overflow-add-sheet
-overflow-add-sheet c =
+pub overflow_add-sheet : goal.overflow_add-sheet
+overflow_add-sheet c =
     let f = packed_fits c.args.total c.args.sum c.args.unit c.args.weights.now c.requires.0 c.loop-i.i c.loop-i-test.true in
     rw (rest_is (c.args.total * get_or c.args.weights.now c.loop-i.i 0) c.args.sum) (omega arith)
 
-pub overflow-sub-left : goal.overflow-sub-left
-overflow-sub-left c = (left_more c.args.total c.args.sum c.args.unit c.args.weights.now c.requires.0 c.loop-i.i c.loop-i-test.true c.loop-i.left c.loop-i.invariant.0).0
+pub overflow_sub-left : goal.overflow_sub-left
+overflow_sub-left c = (left_more c.args.total c.args.sum c.args.unit c.args.weights.now c.requires.0 c.loop-i.i c.loop-i-test.true c.loop-i.left c.loop-i.invariant.0).0
 
 pub loop-i-preserved : goal.loop-i-preserved
 loop-i-preserved c = (

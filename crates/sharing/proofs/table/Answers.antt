@@ -7,6 +7,6 @@ pub returns : goal.returns
 returns g c =
     let t = c.args.total in
     let ws = c.args.weights.now in
-    let a = c.in-ok-shares.ensures in
+    let a = c.in_ok-shares.ensures in
     let fair = g.met.D.Divider.fair c.args.divider.now t ws (passed t ws (length ws) a.0) in
-    (a.0, table_made t c.in-ok-sum.sum c.in-ok-wholes.wholes c.in-ok-wholes.rests ws c.deref.result.now _ (string_bytes c.new-text.result) (string_bytes c.write-lines.new.text) (string_bytes c.write-sums.new.text) c.in-ok-sum.ensures.1 (c.deref.ensures.value ∙ a.1) fair.adds_up c.new-text.ensures.bytes c.in-ok-wholes.ensures c.in-ok-write-sums.ensures)
+    (a.0, table_made t c.in_ok-sum.sum c.in_ok-wholes.wholes c.in_ok-wholes.rests ws c.deref.result.now _ (string_bytes c.new-text.result) (string_bytes c.write_lines.new.text) (string_bytes c.write_sums.new.text) c.in_ok-sum.ensures.1 (c.deref.ensures.value ∙ a.1) fair.adds_up c.new-text.ensures.bytes c.in_ok-wholes.ensures c.in_ok-write_sums.ensures)

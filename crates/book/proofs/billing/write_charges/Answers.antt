@@ -11,5 +11,5 @@ returns c =
     let ss = c.args.shares.now in
     let f = signed c.args.sign in
     let part : length (take ((from + n) - from) (drop from c.args.charges.now)) ≡ n = simp (length-take, length-drop) (omega arith) in
-    let filled : c.fill-charges.new.part ≡ map f (take n ss) = c.fill-charges.ensures ∙ ap (λ (j : ℕ). map f (take j ss)) part in
-    part_written from ((from + n) - from) c.args.charges.now c.fill-charges.new.part (map f (take n ss)) filled (omega (arith, length-map (take n ss) f, length-take-le n ss c.requires.wide))
+    let filled : c.fill_charges.new.part ≡ map f (take n ss) = c.fill_charges.ensures ∙ ap (λ (j : ℕ). map f (take j ss)) part in
+    part_written from ((from + n) - from) c.args.charges.now c.fill_charges.new.part (map f (take n ss)) filled (omega (arith, length-map (take n ss) f, length-take-le n ss c.requires.wide))

@@ -5,7 +5,7 @@ use Rattle.book.specs.Customers.{key}
 use Rattle.book.specs.Marks.{most_mark}
 use Rattle.book.proofs.marks.send_home.Goals as goal
 
-pub returns-in-default : goal.returns-in-default
-returns-in-default c =
-    let t = lt-leb (c.args.giver.mark + c.args.giver.transit) most_mark c.in-default.ensures.0 in
+pub returns-in_default : goal.returns-in_default
+returns-in_default c =
+    let t = lt-leb (c.args.giver.mark + c.args.giver.transit) most_mark c.in_default.ensures.0 in
     record { answer = rw t refl; after = rw t refl; kept = kept_same key c.args.customers.now }

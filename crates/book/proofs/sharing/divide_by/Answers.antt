@@ -15,15 +15,15 @@ front by cs s s' e = ap (take (length cs)) e ∙ front_on_top (map (weight_by by
 divided : (m : Meaning) (t : ℕ) (by by' ss ss' : List ℕ) → ss' ≡ on_top (m t by) ss → by ≡ by' → ss' ≡ on_top (m t by') ss
 divided m t by by' ss ss' d e = d ∙ ap (λ (l : List ℕ). on_top (m t l) ss) e
 
-pub divide-first-requires : goal.divide-first-requires
-divide-first-requires g c =
-    let f = front c.args.by c.args.customers.now c.args.weights.now c.write-weights.new.sheet c.write-weights.ensures in
+pub divide_first-requires : goal.divide_first-requires
+divide_first-requires g c =
+    let f = front c.args.by c.args.customers.now c.args.weights.now c.write_weights.new.sheet c.write_weights.ensures in
     record { weighed = omega arith; wide = c.requires.wide; passes = subst (Passes c.args.total) (sym f) c.requires.passes }
 
 pub returns : goal.returns
 returns g c =
-    let f = front c.args.by c.args.customers.now c.args.weights.now c.write-weights.new.sheet c.write-weights.ensures in
+    let f = front c.args.by c.args.customers.now c.args.weights.now c.write_weights.new.sheet c.write_weights.ensures in
     record {
-      weighed = c.write-weights.ensures;
-      shared = divided (g.D.Divider.meaning c.args.divider.now) c.args.total (take (length c.args.customers.now) c.write-weights.new.sheet) (map (weight_by c.args.by) c.args.customers.now) c.args.shares.now c.divide-first.new.shares c.divide-first.ensures f;
+      weighed = c.write_weights.ensures;
+      shared = divided (g.D.Divider.meaning c.args.divider.now) c.args.total (take (length c.args.customers.now) c.write_weights.new.sheet) (map (weight_by c.args.by) c.args.customers.now) c.args.shares.now c.divide_first.new.shares c.divide_first.ensures f;
     }

@@ -26,15 +26,15 @@ written_from : (t : ℕ) (f : Customer → ℕ) (w : Customer → ℕ → Custom
 written_from t f w cs cs' shares ss ss' fair e d =
     d ∙ ap (λ (s : List ℕ). with_shares w s cs) e ∙ with_front w shares (drop (length shares) ss) cs (fair.len ∙ length-map cs f)
 
-pub write-shares-requires : goal.write-shares-requires
-write-shares-requires g c =
+pub write_shares-requires : goal.write_shares-requires
+write_shares-requires g c =
     let cs = records c.args.customers.now in
     let m = g.D.Divider.meaning c.args.divider.now in
     let f = weight_by c.args.by in
-    let are = same_sheets m c.args.total f c.records.result.now cs c.args.weights.now c.args.shares.now c.divide-by.new.weights c.divide-by.new.shares c.records.ensures c.divide-by.ensures in
+    let are = same_sheets m c.args.total f c.records.result.now cs c.args.weights.now c.args.shares.now c.divide_by.new.weights c.divide_by.new.shares c.records.ensures c.divide_by.ensures in
     record {
       wide = omega arith;
-      small = each_small c.args.total _ f cs (m c.args.total (map f cs)) c.args.shares.now c.divide-by.new.shares (g.met.D.Divider.fair c.args.divider.now c.args.total (map f cs) c.requires.passes) are.shared c.requires.small;
+      small = each_small c.args.total _ f cs (m c.args.total (map f cs)) c.args.shares.now c.divide_by.new.shares (g.met.D.Divider.fair c.args.divider.now c.args.total (map f cs) c.requires.passes) are.shared c.requires.small;
     }
 
 pub returns : goal.returns
@@ -42,9 +42,9 @@ returns g c =
     let cs = records c.args.customers.now in
     let m = g.D.Divider.meaning c.args.divider.now in
     let f = weight_by c.args.by in
-    let are = same_sheets m c.args.total f c.records.result.now cs c.args.weights.now c.args.shares.now c.divide-by.new.weights c.divide-by.new.shares c.records.ensures c.divide-by.ensures in
+    let are = same_sheets m c.args.total f c.records.result.now cs c.args.weights.now c.args.shares.now c.divide_by.new.weights c.divide_by.new.shares c.records.ensures c.divide_by.ensures in
     record {
-      done = written_from c.args.total f (write_by c.args.to) cs (records c.write-shares.new.customers) (m c.args.total (map f cs)) c.args.shares.now c.divide-by.new.shares (g.met.D.Divider.fair c.args.divider.now c.args.total (map f cs) c.requires.passes) are.shared c.write-shares.ensures.done;
+      done = written_from c.args.total f (write_by c.args.to) cs (records c.write_shares.new.customers) (m c.args.total (map f cs)) c.args.shares.now c.divide_by.new.shares (g.met.D.Divider.fair c.args.divider.now c.args.total (map f cs) c.requires.passes) are.shared c.write_shares.ensures.done;
       sheets = are;
-      kept = c.write-shares.ensures.kept;
+      kept = c.write_shares.ensures.kept;
     }

@@ -22,9 +22,9 @@ loop-i-preserved c =
     let w = write_by c.args.to in
     let here : i < length cs = omega arith in
     let row : c.write-row.result ≡ w (get_or (records c.loop-i.customers) i nobody) (get_or ss i 0) = c.write-row.ensures ∙ ap (λ (t : List Customer). w (get_or t i nobody) (get_or ss i 0)) c.records-records.ensures in
-    let done : records c.replace-at.new.self ≡ with_shares w (take (i + 1) ss) cs = c.replace-at.ensures.records ∙ pass_more c.args.to ss cs (records c.loop-i.customers) i c.write-row.result (omega arith) here c.loop-i.invariant.0 row in
-    let long : length (records c.replace-at.new.self) ≡ length (records c.loop-i.customers) = ap length done ∙ length_with w (take (i + 1) ss) cs ∙ sym (ap length c.loop-i.invariant.0 ∙ length_with w (take i ss) cs) in
-    (done, kept_then key c.args.customers.now c.loop-i.customers c.replace-at.new.self long c.loop-i.invariant.1 c.replace-at.ensures.kept)
+    let done : records c.replace_at.new.self ≡ with_shares w (take (i + 1) ss) cs = c.replace_at.ensures.records ∙ pass_more c.args.to ss cs (records c.loop-i.customers) i c.write-row.result (omega arith) here c.loop-i.invariant.0 row in
+    let long : length (records c.replace_at.new.self) ≡ length (records c.loop-i.customers) = ap length done ∙ length_with w (take (i + 1) ss) cs ∙ sym (ap length c.loop-i.invariant.0 ∙ length_with w (take i ss) cs) in
+    (done, kept_then key c.args.customers.now c.loop-i.customers c.replace_at.new.self long c.loop-i.invariant.1 c.replace_at.ensures.kept)
 
 pub returns : goal.returns
 returns c =

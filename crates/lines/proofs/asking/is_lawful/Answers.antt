@@ -15,20 +15,20 @@ returns-in-Figure c =
 pub returns-in-Text : goal.returns-in-Text
 returns-in-Text c =
     let κ = kind c.args.letter c.args.place in
-    c.is-name.ensures
+    c.is_name.ensures
     ∙ name_passes κ c.args.letter c.args.place c.in-Text.name.now (spelled c.args.third) (subst (Fits κ) c.in-Text.is c.requires.0)
     ∙ ap (λ f. passes κ c.args.letter c.args.place (spelled f) (spelled c.args.third)) (sym c.in-Text.is)
 
 pub returns-in-OtherPool : goal.returns-in-OtherPool
 returns-in-OtherPool c =
     let κ = kind c.args.letter c.args.place in
-    c.is-other-pool.ensures
+    c.is_other_pool.ensures
     ∙ other_passes κ c.args.letter c.args.place c.in-Letter.pool c.args.third (sym c.in-OtherPool.ensures) c.requires.1
     ∙ ap (λ f. passes κ c.args.letter c.args.place (spelled f) (spelled c.args.third)) (sym c.in-Letter.is)
 
-pub returns-in-default : goal.returns-in-default
-returns-in-default c =
+pub returns-in_default : goal.returns-in_default
+returns-in_default c =
     let κ = kind c.args.letter c.args.place in
-    c.is-pool.ensures
-    ∙ pool_passes κ c.args.letter c.args.place c.in-Letter.pool (spelled c.args.third) (subst (Fits κ) c.in-Letter.is c.requires.0) (λ e. c.in-default.not-OtherPool (c.kind-of.ensures ∙ e))
+    c.is_pool.ensures
+    ∙ pool_passes κ c.args.letter c.args.place c.in-Letter.pool (spelled c.args.third) (subst (Fits κ) c.in-Letter.is c.requires.0) (λ e. c.in_default.not-OtherPool (c.kind_of.ensures ∙ e))
     ∙ ap (λ f. passes κ c.args.letter c.args.place (spelled f) (spelled c.args.third)) (sym c.in-Letter.is)

@@ -21,4 +21,4 @@ loop-byte-preserved c =
 pub returns : goal.returns
 returns c =
     let bs = c.args.bytes.now in
-    is_a_name bs (omega (arith, eqb-false (length bs) 0 (sym c.if-is-empty.ensures))) c.if-bytes-gt24.false (sym c.loop-byte.invariant ∙ ap name_bytes (drop_all c.loop-byte.byte-index bs c.loop-byte-test.false))
+    is_a_name bs (omega (arith, eqb-false (length bs) 0 (sym c.if-is_empty.ensures))) c.if-bytes-gt24.false (sym c.loop-byte.invariant ∙ ap name_bytes (drop_all c.loop-byte.byte-index bs c.loop-byte-test.false))

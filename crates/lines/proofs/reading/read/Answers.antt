@@ -23,16 +23,16 @@ pub loop-i-init : goal.loop-i-init
 loop-i-init c =
     walked_start c.in-Some.letter (parted 44 c.args.line.now) c.split.result.0 (parts_after 44 c.split.result.1) c.split.ensures
 
-pub read-field-requires : goal.read-field-requires
-read-field-requires c =
+pub read_field-requires : goal.read_field-requires
+read_field-requires c =
     compared_next c.in-Some.letter (parted 44 c.args.line.now) c.loop-i.fields (parts_after 44 c.loop-i.rest) c.loop-i.i c.loop-i.invariant
 
-pub returns-in-default-default : goal.returns-in-default-default
-returns-in-default-default c =
+pub returns-in_default-default : goal.returns-in_default-default
+returns-in_default-default c =
     let fs = parted 44 c.args.line.now in
     let known = letter_found fs c.split.result.0.now (parts_after 44 c.split.result.1) (Some c.in-Some.letter) letter_of c.split.ensures c.in-Some.ensures in
     record {
-      reads = walked_short c.in-Some.letter fs c.loop-i.fields (parts_after 44 c.loop-i.rest) c.loop-i.i c.loop-i.invariant known (ap (parts_after 44) c.in-default-default.is) (omega (arith, c.count-i-end.ensures.is));
+      reads = walked_short c.in-Some.letter fs c.loop-i.fields (parts_after 44 c.loop-i.rest) c.loop-i.i c.loop-i.invariant known (ap (parts_after 44) c.in_default-default.is) (omega (arith, c.count-i-end.ensures.is));
       writes = tt;
       ranged = tt;
     }
@@ -52,18 +52,18 @@ returns-in-Err c =
       ranged = tt;
     }
 
-pub returns-then-is-some : goal.returns-then-is-some
-returns-then-is-some c =
+pub returns-then-is_some : goal.returns-then-is_some
+returns-then-is_some c =
     let fs = parted 44 c.args.line.now in
     let known = letter_found fs c.split.result.0.now (parts_after 44 c.split.result.1) (Some c.in-Some.letter) letter_of c.split.ensures c.in-Some.ensures in
     record {
-      reads = walked_over c.in-Some.letter fs c.loop-i.fields (parts_after 44 c.loop-i.rest) c.loop-i.i c.loop-i.invariant known (some_parts 44 c.loop-i.rest (sym c.if-is-some.ensures)) (ended c.in-Some.letter c.loop-i.i c.count-i-end.result c.count-i-end.ensures.is c.loop-i-test.false c.loop-i.auto.i-end);
+      reads = walked_over c.in-Some.letter fs c.loop-i.fields (parts_after 44 c.loop-i.rest) c.loop-i.i c.loop-i.invariant known (some_parts 44 c.loop-i.rest (sym c.if-is_some.ensures)) (ended c.in-Some.letter c.loop-i.i c.count-i-end.result c.count-i-end.ensures.is c.loop-i-test.false c.loop-i.auto.i-end);
       writes = tt;
       ranged = tt;
     }
 
-pub line-of-requires : goal.line-of-requires
-line-of-requires c =
+pub line_of-requires : goal.line_of-requires
+line_of-requires c =
     walked_passed c.in-Some.letter (parted 44 c.args.line.now) c.loop-i.fields (parts_after 44 c.loop-i.rest) c.loop-i.i c.loop-i.invariant (ended c.in-Some.letter c.loop-i.i c.count-i-end.result c.count-i-end.ensures.is c.loop-i-test.false c.loop-i.auto.i-end)
 
 pub returns : goal.returns
@@ -74,10 +74,10 @@ returns c =
     let rest = parts_after 44 c.loop-i.rest in
     let known = letter_found fs c.split.result.0.now (parts_after 44 c.split.result.1) (Some l) letter_of c.split.ensures c.in-Some.ensures in
     let done = ended l c.loop-i.i c.count-i-end.result c.count-i-end.ensures.is c.loop-i-test.false c.loop-i.auto.i-end in
-    let none = none_after 44 c.loop-i.rest (sym c.if-is-some.ensures) in
-    let is = c.line-of.ensures ∙ walked_made l fs c.loop-i.fields rest c.loop-i.i c.loop-i.invariant done in
+    let none = none_after 44 c.loop-i.rest (sym c.if-is_some.ensures) in
+    let is = c.line_of.ensures ∙ walked_made l fs c.loop-i.fields rest c.loop-i.i c.loop-i.invariant done in
     record {
       reads = ap Ok is ∙ walked_through l fs c.loop-i.fields rest c.loop-i.i c.loop-i.invariant done none known;
-      writes = written_back line l (contents c.line-of.result) is known (walked_count l fs c.loop-i.fields rest c.loop-i.i c.loop-i.invariant done none) (walked_clean l fs c.loop-i.fields rest c.loop-i.i c.loop-i.invariant done none);
-      ranged = read_ranged l fs (contents c.line-of.result) is (walked_clean l fs c.loop-i.fields rest c.loop-i.i c.loop-i.invariant done none);
+      writes = written_back line l (contents c.line_of.result) is known (walked_count l fs c.loop-i.fields rest c.loop-i.i c.loop-i.invariant done none) (walked_clean l fs c.loop-i.fields rest c.loop-i.i c.loop-i.invariant done none);
+      ranged = read_ranged l fs (contents c.line_of.result) is (walked_clean l fs c.loop-i.fields rest c.loop-i.i c.loop-i.invariant done none);
     }

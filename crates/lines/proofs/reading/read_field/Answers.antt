@@ -6,9 +6,9 @@ use Rattle.lines.specs.Questions.{asks}
 use Rattle.lines.proofs.Fields.{told_refused}
 use Rattle.lines.proofs.reading.read_field.Goals as goal
 
-pub returns-in-err-ask : goal.returns-in-err-ask
-returns-in-err-ask c =
-    let p = err_from_is_err_and c.from-residual-in-err-ask.result c.from-residual-in-err-ask.ensures.1 in
+pub returns-in_err-ask : goal.returns-in_err-ask
+returns-in_err-ask c =
+    let p = err_from_is_err_and c.from_residual-in_err-ask.result c.from_residual-in_err-ask.ensures.1 in
     let l = c.args.line in
     let k = c.args.place in
-    rw (p.1, p.2) (ap (λ f. asks (kind l k) l k f (spelled c.args.third)) (sym c.in-ok-field.ensures.1) ∙ told_refused _ _ c.in-err-ask.ensures)
+    rw (p.1, p.2) (ap (λ f. asks (kind l k) l k f (spelled c.args.third)) (sym c.in_ok-field.ensures.1) ∙ told_refused _ _ c.in_err-ask.ensures)

@@ -5,4 +5,4 @@ use Rattle.lines.proofs.writing.write_customer.Goals as goal
 
 pub returns : goal.returns
 returns c =
-    writes_from (customer c.args.name.now c.args.figures) c.args.buffer.now c.write-fields.result c.write-fields.new.buffer (search rules, search rules, search rules, search rules, search rules, search rules, search rules, search rules, search rules) c.write-fields.ensures
+    writes_from (customer c.args.name.now c.args.figures) c.args.buffer.now c.write_fields.result c.write_fields.new.buffer (search rules, search rules, search rules, search rules, search rules, search rules, search rules, search rules, search rules) c.write_fields.ensures

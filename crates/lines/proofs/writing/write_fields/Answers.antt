@@ -21,7 +21,7 @@ returns-in-Err c =
 
 pub loop-i-preserved : goal.loop-i-preserved
 loop-i-preserved c =
-    asked_more c.args.letter c.args.fields.now c.requires.0 c.requires.1 c.loop-i.i c.loop-i-test.true c.loop-i.invariant (told_nothing _ c.in-default.ensures)
+    asked_more c.args.letter c.args.fields.now c.requires.0 c.requires.1 c.loop-i.i c.loop-i-test.true c.loop-i.invariant (told_nothing _ c.in_default.ensures)
 
 pub returns-in-Some : goal.returns-in-Some
 returns-in-Some c =

@@ -6,6 +6,6 @@ use Rattle.lines.proofs.writing.write_grant.Goals as goal
 pub returns : goal.returns
 returns c =
     subst
-    (λ n. Writes (grant n c.args.load) c.args.buffer.now c.write-fields.result c.write-fields.new.buffer)
+    (λ n. Writes (grant n c.args.load) c.args.buffer.now c.write_fields.result c.write_fields.new.buffer)
     c.from.ensures
-    (writes_from (grant c.from.result c.args.load) c.args.buffer.now c.write-fields.result c.write-fields.new.buffer (search rules, search rules) c.write-fields.ensures)
+    (writes_from (grant c.from.result c.args.load) c.args.buffer.now c.write_fields.result c.write_fields.new.buffer (search rules, search rules) c.write_fields.ensures)

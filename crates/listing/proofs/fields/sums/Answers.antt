@@ -33,7 +33,7 @@ loop-customer-preserved c =
     let marks = sum_by_more (λ c. c.mark) rs i nobody h in
     let rhwms = sum_by_more (λ c. c.rhwm) rs i nobody h in
     let above = sum_by_more above_rhwm rs i nobody h in
-    (omega (arith, c.loop-customer.invariant.0, c.raised-marks.ensures.is), omega (arith, c.loop-customer.invariant.1, c.raised-rhwms.ensures.is), omega (arith, c.loop-customer.invariant.2, c.raised-above.ensures.is, c.above-rhwm-load.ensures), omega (arith, c.loop-customer.invariant.3, c.raised-marks.ensures.small), omega (arith, c.loop-customer.invariant.4, c.raised-rhwms.ensures.small), omega (arith, c.loop-customer.invariant.5, c.raised-above.ensures.small))
+    (omega (arith, c.loop-customer.invariant.0, c.raised-marks.ensures.is), omega (arith, c.loop-customer.invariant.1, c.raised-rhwms.ensures.is), omega (arith, c.loop-customer.invariant.2, c.raised-above.ensures.is, c.above_rhwm_load.ensures), omega (arith, c.loop-customer.invariant.3, c.raised-marks.ensures.small), omega (arith, c.loop-customer.invariant.4, c.raised-rhwms.ensures.small), omega (arith, c.loop-customer.invariant.5, c.raised-above.ensures.small))
 
 -- a sum over all records
 all : (f : Customer → ℕ) (rs xs : List Customer) (i n : ℕ) → rs ≡ xs → length rs ≤ i → n ≡ sum_by f (take i rs) → n ≡ sum_by f xs

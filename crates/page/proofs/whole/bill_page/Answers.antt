@@ -29,10 +29,10 @@ lines_are page body r s split = ap (parted 10) (sym s.2) ∙ sym split
 pub returns-in-Err : goal.returns-in-Err
 returns-in-Err g c = record { comes = refused_page c.in-Err.refusal c.in-Err.ensures; sums = tt }
 
-pub returns-in-Err-header-of : goal.returns-in-Err-header-of
-returns-in-Err-header-of g c =
+pub returns-in-Err-header_of : goal.returns-in-Err-header_of
+returns-in-Err-header_of g c =
     let s = c.in-Ok.ensures in
-    record { comes = headless s.0 s.1 (lines_are c.args.page.now c.in-Ok.body c.split.result s c.split.ensures) c.in-Err-header-of.ensures; sums = tt }
+    record { comes = headless s.0 s.1 (lines_are c.args.page.now c.in-Ok.body c.split.result s c.split.ensures) c.in-Err-header_of.ensures; sums = tt }
 
 -- over a register and a sheet of their own
 from_start : {D : Type 0} {m : D → Meaning} {d : D} {h : Header} {rs : List Reading} {r : Result (ClosedBook D) Fault} {cs' : List Customer} {ch' : List ℤ} (places : ℕ) (intake : Intake D) (cs : List Customer) (ch : List ℤ) → places ≡ 512 → intake.divider ≡ d → intake.header ≡ h → cs ≡ [] → ch ≡ replicate 2048 (pos 0) → Leads m places 512 intake cs ch rs r cs' ch' → Leads m 512 512 (intake_of d h) [] (replicate 2048 (pos 0)) rs r cs' ch'
@@ -40,12 +40,12 @@ from_start {D} {m} {d} {h} {rs} {r} {cs'} {ch'} places intake cs ch ep ed eh ec 
     let ei : intake ≡ intake_of d h = λ i. record { divider = ed i; header = eh i } in
     subst (λ ch. Leads m 512 512 (intake_of d h) [] ch rs r cs' ch') es (subst (λ cs. Leads m 512 512 (intake_of d h) cs ch rs r cs' ch') ec (subst (λ intake. Leads m 512 512 intake cs ch rs r cs' ch') ei (subst (λ places. Leads m places 512 intake cs ch rs r cs' ch') ep l)))
 
-pub returns-in-err-book : goal.returns-in-err-book
-returns-in-err-book g c =
-    let p = err_from_is_err_and c.from-residual.result c.from-residual.ensures.1 in
+pub returns-in_err-book : goal.returns-in_err-book
+returns-in_err-book g c =
+    let p = err_from_is_err_and c.from_residual.result c.from_residual.ensures.1 in
     let s = c.in-Ok.ensures in
     let full : room c.new-customers.result ≡ 512 = ap (λ m. min (length m) 512) c.new-customers.ensures.memory in
-    rw (p.1, p.2) (record { comes = faulted s.0 s.1 (lines_are c.args.page.now c.in-Ok.body c.split.result s c.split.ensures) c.in-Ok-header-of.ensures (from_start (room c.new-customers.result) c.new-intake.result (records c.new-customers.result) _ full c.new-intake.ensures.divider c.new-intake.ensures.header c.new-customers.ensures.records refl c.in-err-book.ensures); sums = tt })
+    rw (p.1, p.2) (record { comes = faulted s.0 s.1 (lines_are c.args.page.now c.in-Ok.body c.split.result s c.split.ensures) c.in-Ok-header_of.ensures (from_start (room c.new-customers.result) c.new-intake.result (records c.new-customers.result) _ full c.new-intake.ensures.divider c.new-intake.ensures.header c.new-customers.ensures.records refl c.in_err-book.ensures); sums = tt })
 
 -- the records that were copied stand in the first places
 copied : (xs rs cs rest : List Customer) → xs ≡ rs → rs ≡ cs → cs ≡ take (length rs) (xs ++ rest)
@@ -59,5 +59,5 @@ pub returns : goal.returns
 returns g c =
     let s = c.in-Ok.ensures in
     let full : room c.new-customers.result ≡ 512 = ap (λ m. min (length m) 512) c.new-customers.ensures.memory in
-    let comes = with_customers (copied c.copy-from-slice.new.self c.records-records.result.now (records c.lead.new.customers) _ c.copy-from-slice.ensures.after c.records-records.ensures) (billed_page s.0 s.1 (lines_are c.args.page.now c.in-Ok.body c.split.result s c.split.ensures) c.in-Ok-header-of.ensures (from_start (room c.new-customers.result) c.new-intake.result (records c.new-customers.result) _ full c.new-intake.ensures.divider c.new-intake.ensures.header c.new-customers.ensures.records refl c.in-ok-book.ensures)) in
+    let comes = with_customers (copied c.copy_from_slice.new.self c.records-records.result.now (records c.lead.new.customers) _ c.copy_from_slice.ensures.after c.records-records.ensures) (billed_page s.0 s.1 (lines_are c.args.page.now c.in-Ok.body c.split.result s c.split.ensures) c.in-Ok-header_of.ensures (from_start (room c.new-customers.result) c.new-intake.result (records c.new-customers.result) _ full c.new-intake.ensures.divider c.new-intake.ensures.header c.new-customers.ensures.records refl c.in_ok-book.ensures)) in
     record { comes = comes; sums = page_adds_up g.D.Divider.meaning g.met.D.Divider.fair c.args.divider c.args.page.now _ comes }

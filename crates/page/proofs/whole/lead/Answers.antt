@@ -17,7 +17,7 @@ use Rattle.page.specs.declared.fault.Fault.{Fault}
 use Rattle.page.specs.Pages.{Reading, Open, at_line, Plays, Leads, untaken, unfounded, unplayed, ends_refused, ends}
 use Rattle.page.proofs.Playing.{takes_counts}
 use Rattle.page.proofs.whole.lead.Goals as goal
-use Rattle.page.proofs.whole.lead.Goals.{then-is-some, else-is-some}
+use Rattle.page.proofs.whole.lead.Goals.{then-is_some, else-is_some}
 
 -- over a register of its own
 fresh : {D : Type 0} (places : ℕ) (b : OpenBook D) (cs : List Customer) (ls : List CostLine) (n : ℕ) (rs : List Reading) (o : Result (Open D) Fault) → places ≡ 512 → ls ≡ [] → Plays places b cs ls n rs o → Plays 512 b cs [] n rs o
@@ -28,51 +28,51 @@ at_same_line : {D : Type 0} {m : D → Meaning} {p q : ℕ} {intake : Intake D} 
 at_same_line {D} {m} {p} {q} {intake} {cs} {cs'} {ch} {ch'} {rs} {e} is x =
     subst (λ l. Leads m p q intake cs ch rs (Err (at_line l (Book e))) cs' ch') (sym is) x
 
-pub returns-in-err-number : goal.returns-in-err-number
-returns-in-err-number g c =
-    let p = err_from_is_err_and c.from-residual.result c.from-residual.ensures.1 in
-    rw (p.1, p.2) (untaken c.in-err-number.ensures)
+pub returns-in_err-number : goal.returns-in_err-number
+returns-in_err-number g c =
+    let p = err_from_is_err_and c.from_residual.result c.from_residual.ensures.1 in
+    rw (p.1, p.2) (untaken c.in_err-number.ensures)
 
-pub overflow-sub-line : goal.overflow-sub-line
-overflow-sub-line g c = let n = takes_counts c.in-ok-number.ensures in omega arith
+pub overflow_sub-line : goal.overflow_sub-line
+overflow_sub-line g c = let n = takes_counts c.in_ok-number.ensures in omega arith
 
 pub returns-in-Err : goal.returns-in-Err
 returns-in-Err g c =
-    let rest = parts_after 10 c.in-ok-number.rest in
-    let n = c.in-ok-number.number in
+    let rest = parts_after 10 c.in_ok-number.rest in
+    let n = c.in_ok-number.number in
     let many = length-map rest line_of in
-    let line : c.if-is-some.line ≡ cond (eqb (length (map line_of rest)) 0) (n - 1) n = elim c.if-is-some.branch [
-      | then-is-some w ↦
-          let some = some_parts 10 c.in-ok-number.rest (sym w.if-is-some.ensures) in
+    let line : c.if-is_some.line ≡ cond (eqb (length (map line_of rest)) 0) (n - 1) n = elim c.if-is_some.branch [
+      | then-is_some w ↦
+          let some = some_parts 10 c.in_ok-number.rest (sym w.if-is_some.ensures) in
           let t = ne_eqb (length (map line_of rest)) 0 (λ e. omega arith) in
           rw t w.line-is
-      | else-is-some w ↦
-          let none = ap length (none_after 10 c.in-ok-number.rest (sym w.if-is-some.ensures)) in
+      | else-is_some w ↦
+          let none = ap length (none_after 10 c.in_ok-number.rest (sym w.if-is_some.ensures)) in
           let t = eq-eqb (length (map line_of rest)) 0 (omega arith) in
           rw t w.line-is
     ] in
-    at_same_line line (unfounded c.in-ok-number.ensures c.in-Err.ensures)
+    at_same_line line (unfounded c.in_ok-number.ensures c.in-Err.ensures)
 
-pub act-all-requires : goal.act-all-requires
-act-all-requires g c =
-    let n = (takes_counts c.in-ok-number.ensures).1 in
-    let a = length-map (parts_after 10 c.in-ok-number.rest) line_of in
+pub act_all-requires : goal.act_all-requires
+act_all-requires g c =
+    let n = (takes_counts c.in_ok-number.ensures).1 in
+    let a = length-map (parts_after 10 c.in_ok-number.rest) line_of in
     let b = length-map (parts_after 10 c.args.rest) line_of in
     omega (arith, c.requires.0, c.requires.1)
 
-pub returns-in-err-act-all : goal.returns-in-err-act-all
-returns-in-err-act-all g c =
-    let p = err_from_is_err_and c.from-residual-in-err-act-all.result c.from-residual-in-err-act-all.ensures.1 in
+pub returns-in_err-act_all : goal.returns-in_err-act_all
+returns-in_err-act_all g c =
+    let p = err_from_is_err_and c.from_residual-in_err-act_all.result c.from_residual-in_err-act_all.ensures.1 in
     let full : room c.new-costs.result ≡ 512 = ap (λ m. min (length m) 512) c.new-costs.ensures.memory in
-    rw (p.1, p.2) (unplayed c.in-ok-number.ensures c.in-Ok.ensures (fresh (room c.new-costs.result) c.in-Ok.book _ (records c.new-costs.result) c.in-ok-number.number _ _ full c.new-costs.ensures.records c.in-err-act-all.ensures))
+    rw (p.1, p.2) (unplayed c.in_ok-number.ensures c.in-Ok.ensures (fresh (room c.new-costs.result) c.in-Ok.book _ (records c.new-costs.result) c.in_ok-number.number _ _ full c.new-costs.ensures.records c.in_err-act_all.ensures))
 
 pub returns-in-Ok-settle : goal.returns-in-Ok-settle
 returns-in-Ok-settle g c =
     let full : room c.new-costs.result ≡ 512 = ap (λ m. min (length m) 512) c.new-costs.ensures.memory in
-    ends c.in-ok-number.ensures c.in-Ok.ensures (fresh (room c.new-costs.result) c.in-Ok.book _ (records c.new-costs.result) c.in-ok-number.number _ _ full c.new-costs.ensures.records c.in-ok-act-all.ensures) c.in-Ok-settle.ensures
+    ends c.in_ok-number.ensures c.in-Ok.ensures (fresh (room c.new-costs.result) c.in-Ok.book _ (records c.new-costs.result) c.in_ok-number.number _ _ full c.new-costs.ensures.records c.in_ok-act_all.ensures) c.in-Ok-settle.ensures
 
 pub returns-in-Err-settle : goal.returns-in-Err-settle
 returns-in-Err-settle g c =
     let full : room c.new-costs.result ≡ 512 = ap (λ m. min (length m) 512) c.new-costs.ensures.memory in
     let line : c.args.last ≡ length (map line_of (parts_after 10 c.args.rest)) + 1 = c.requires.0 ∙ ap (λ n. n + 1) (sym (length-map (parts_after 10 c.args.rest) line_of)) in
-    at_same_line line (ends_refused c.in-ok-number.ensures c.in-Ok.ensures (fresh (room c.new-costs.result) c.in-Ok.book _ (records c.new-costs.result) c.in-ok-number.number _ _ full c.new-costs.ensures.records c.in-ok-act-all.ensures) c.in-Err-settle.ensures)
+    at_same_line line (ends_refused c.in_ok-number.ensures c.in-Ok.ensures (fresh (room c.new-costs.result) c.in-Ok.book _ (records c.new-costs.result) c.in_ok-number.number _ _ full c.new-costs.ensures.records c.in_ok-act_all.ensures) c.in-Err-settle.ensures)

@@ -4,11 +4,11 @@ use Rattle.lines.specs.Lines.{contents, ranged}
 use Rattle.ratebook.proofs.Fitting.{number_small, customer_fits}
 use Rattle.ratebook.proofs.listing_of.write_row.Goals as goal
 
-pub overflow-cast-figures : goal.overflow-cast-figures
-overflow-cast-figures g c =
+pub overflow_cast-figures : goal.overflow_cast-figures
+overflow_cast-figures g c =
     let small = number_small c.in-Customer.figures (ap (λ l. ranged (contents l)) (sym c.in-Customer.is) ∙ c.in-Ok.ensures.ranged) in
     omega arith
 
-pub returns-in-Ok-customer-row : goal.returns-in-Ok-customer-row
-returns-in-Ok-customer-row g c =
-    customer_fits (records c.args.customers.now) c.args.charges.now c.in-Customer.figures.number c.in-Customer.name.now c.args.output.now c.in-Ok-customer-row.count _ c.in-Ok-customer-row.ensures
+pub returns-in-Ok-customer_row : goal.returns-in-Ok-customer_row
+returns-in-Ok-customer_row g c =
+    customer_fits (records c.args.customers.now) c.args.charges.now c.in-Customer.figures.number c.in-Customer.name.now c.args.output.now c.in-Ok-customer_row.count _ c.in-Ok-customer_row.ensures

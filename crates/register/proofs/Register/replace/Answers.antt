@@ -8,14 +8,14 @@ use Rattle.register.proofs.Lookups.{length-replaced, replaced-missing}
 use Rattle.register.proofs.Order.{ordered_replaced}
 use Rattle.register.proofs.Register.replace.Goals as goal
 
-pub returns-in-err-at : goal.returns-in-err-at
-returns-in-err-at g c =
+pub returns-in_err-at : goal.returns-in_err-at
+returns-in_err-at g c =
     let key = g.R.Keyed.key in
     let rs = records c.args.self.now in
     record {
       answer = search rules;
-      records = sym (replaced-missing key c.args.row rs (ap (λ (n : ℕ). lookup key n rs) (sym c.number.ensures) ∙ c.in-err-at.ensures.0));
-      untouched = untouched_same c.from-residual.result c.args.self.now;
+      records = sym (replaced-missing key c.args.row rs (ap (λ (n : ℕ). lookup key n rs) (sym c.number.ensures) ∙ c.in_err-at.ensures.0));
+      untouched = untouched_same c.from_residual.result c.args.self.now;
       kept = kept_same key c.args.self.now;
     }
 
@@ -25,8 +25,8 @@ returns g c =
     let before = c.args.self.now in
     let row = c.args.row in
     let rs = records before in
-    let at = c.in-ok-at.at in
-    let there = c.in-ok-at.ensures in
+    let at = c.in_ok-at.at in
+    let there = c.in_ok-at.ensures in
     let place : at ≡ place_of key (key row) rs = there.0 ∙ ap (λ (n : ℕ). place_of key n rs) c.number.ensures in
     let long = length-records before in
     let lt : at < count before = omega arith in

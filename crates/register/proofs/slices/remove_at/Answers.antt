@@ -4,4 +4,4 @@ use Rattle.register.proofs.slices.remove_at.Goals as goal
 
 pub returns : goal.returns
 returns g c =
-    c.copy-within.ensures.after ∙ remove_laid c.args.memory.now c.args.standing c.args.at c.requires.0 c.requires.1
+    c.copy_within.ensures.after ∙ remove_laid c.args.memory.now c.args.standing c.args.at c.requires.0 c.requires.1

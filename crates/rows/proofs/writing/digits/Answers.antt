@@ -3,8 +3,8 @@ use Rattle.std.proofs.lemmas.Fmt.{length-decimal-le, decimal_digit}
 use Rattle.rows.proofs.Placing.{length-decimal_step}
 use Rattle.rows.proofs.writing.digits.Goals as goal
 
-pub overflow-add-count : goal.overflow-add-count
-overflow-add-count c =
+pub overflow_add-count : goal.overflow_add-count
+overflow_add-count c =
     omega (arith, length-decimal-le 20 c.args.n (omega arith) (omega arith) (omega arith))
 
 pub loop-left-preserved : goal.loop-left-preserved

@@ -5,26 +5,26 @@ use Rattle.std.proofs.lemmas.List.{length-append}
 use Rattle.rows.proofs.Joining.{row_holds, front_all, write_more, write_end}
 use Rattle.rows.proofs.writing.write.Goals as goal
 
-pub put-bytes-at-requires : goal.put-bytes-at-requires
-put-bytes-at-requires c =
+pub put_bytes-at-requires : goal.put_bytes-at-requires
+put_bytes-at-requires c =
     let fits = leb-true _ _ (sym c.if-not-fits.ensures) in
     let held = row_holds c.args.fields.now c.args.end.now c.loop-i.i c.loop-i-test.true in
     let comma = ap length c.comma.ensures in
     omega (arith, c.loop-i.invariant.0)
 
-pub put-field-at-requires : goal.put-field-at-requires
-put-field-at-requires c =
+pub put_field-at-requires : goal.put_field-at-requires
+put_field-at-requires c =
     let fits = leb-true _ _ (sym c.if-not-fits.ensures) in
     let held = row_holds c.args.fields.now c.args.end.now c.loop-i.i c.loop-i-test.true in
     let comma = ap length c.comma.ensures in
-    omega (arith, c.loop-i.invariant.0, c.put-bytes-at.ensures.place)
+    omega (arith, c.loop-i.invariant.0, c.put_bytes-at.ensures.place)
 
 pub loop-i-preserved : goal.loop-i-preserved
 loop-i-preserved c =
-    write_more c.args.fields.now c.args.buffer.now c.loop-i.i c.loop-i-test.true c.loop-i.at c.put-bytes-at.result c.put-field-at.result c.loop-i.buffer c.put-bytes-at.new.buffer c.put-field-at.new.buffer c.comma.result.now c.comma.ensures c.loop-i.invariant c.put-bytes-at.ensures.place c.put-bytes-at.ensures.after c.put-field-at.ensures.place c.put-field-at.ensures.after
+    write_more c.args.fields.now c.args.buffer.now c.loop-i.i c.loop-i-test.true c.loop-i.at c.put_bytes-at.result c.put_field-at.result c.loop-i.buffer c.put_bytes-at.new.buffer c.put_field-at.new.buffer c.comma.result.now c.comma.ensures c.loop-i.invariant c.put_bytes-at.ensures.place c.put_bytes-at.ensures.after c.put_field-at.ensures.place c.put_field-at.ensures.after
 
-pub put-bytes-requires : goal.put-bytes-requires
-put-bytes-requires c =
+pub put_bytes-requires : goal.put_bytes-requires
+put_bytes-requires c =
     let fields = c.args.fields.now in
     let fits = leb-true _ _ (sym c.if-not-fits.ensures) in
     let all = ap length (front_all fields c.loop-i.i c.loop-i-test.false) in
@@ -33,4 +33,4 @@ put-bytes-requires c =
 
 pub returns : goal.returns
 returns c =
-    write_end c.args.fields.now c.args.end.now c.args.buffer.now c.loop-i.i c.loop-i.at c.put-bytes.result c.loop-i.buffer c.put-bytes.new.buffer c.loop-i-test.false (leb-true _ _ (sym c.if-not-fits.ensures)) c.loop-i.invariant c.put-bytes.ensures.place c.put-bytes.ensures.after
+    write_end c.args.fields.now c.args.end.now c.args.buffer.now c.loop-i.i c.loop-i.at c.put_bytes.result c.loop-i.buffer c.put_bytes.new.buffer c.loop-i-test.false (leb-true _ _ (sym c.if-not-fits.ensures)) c.loop-i.invariant c.put_bytes.ensures.place c.put_bytes.ensures.after

@@ -5,11 +5,11 @@ use Rattle.sharing.proofs.request.figures_of.Goals as goal
 
 pub returns-in-Err : goal.returns-in-Err
 returns-in-Err c =
-    let f = first_bad string_bytes c.args.words.now c.loop-i.i c.loop-i-test.true c.index-words-i.result c.index-words-i.is c.as-bytes.result.now c.in-Err.e c.as-bytes.ensures.value c.in-Err.ensures.reads c.loop-i.invariant.1 in
+    let f = first_bad string_bytes c.args.words.now c.loop-i.i c.loop-i-test.true c.index-words-i.result c.index-words-i.is c.as_bytes.result.now c.in-Err.e c.as_bytes.ensures.value c.in-Err.ensures.reads c.loop-i.invariant.1 in
     rw c.at_word.ensures f
 
 pub loop-i-preserved : goal.loop-i-preserved
-loop-i-preserved c = words_more string_bytes c.args.words.now c.loop-i.i c.loop-i-test.true c.index-words-i.result c.index-words-i.is c.as-bytes.result.now c.in-Ok.figure (vec_items c.loop-i.found) (vec_items c.push.new.self) c.as-bytes.ensures.value c.in-Ok.ensures.reads c.in-Ok.ensures.written c.in-ok-push.ensures.items c.loop-i.invariant
+loop-i-preserved c = words_more string_bytes c.args.words.now c.loop-i.i c.loop-i-test.true c.index-words-i.result c.index-words-i.is c.as_bytes.result.now c.in-Ok.figure (vec_items c.loop-i.found) (vec_items c.push.new.self) c.as_bytes.ensures.value c.in-Ok.ensures.reads c.in-Ok.ensures.written c.in_ok-push-in-Ok.ensures.items c.loop-i.invariant
 
 pub returns : goal.returns
 returns c = ap (map string_bytes) (sym (take_all c.loop-i.i c.args.words.now c.loop-i-test.false)) ∙ c.loop-i.invariant.0

@@ -18,15 +18,15 @@ pub returns-then-moving-ne0 : goal.returns-then-moving-ne0
 returns-then-moving-ne0 g c =
     let cs = records c.args.customers.now in
     let w = wide_at c.len.result cs c.args.weights.now c.args.shares.now c.wide.result true c.len.ensures c.wide.ensures c.if-not-wide.false in
-    let m = summed_at (weight_by Transit) c.sum-of-moving.result c.records.result.now cs c.sum-of-moving.ensures c.records.ensures in
+    let m = summed_at (weight_by Transit) c.sum_of-moving.result c.records.result.now cs c.sum_of-moving.ensures c.records.ensures in
     record { done = close_moving g.D.Divider.meaning c.args.self cs c.args.weights.now c.args.shares.now w (λ z. c.if-moving-ne0.true (m ∙ z)); kept = kept_same key c.args.customers.now }
 
 pub returns-then-sum-eq0 : goal.returns-then-sum-eq0
 returns-then-sum-eq0 g c =
     let cs = records c.args.customers.now in
     let w = wide_at c.len.result cs c.args.weights.now c.args.shares.now c.wide.result true c.len.ensures c.wide.ensures c.if-not-wide.false in
-    let m = summed_at (weight_by Transit) c.sum-of-moving.result c.records.result.now cs c.sum-of-moving.ensures c.records.ensures in
-    let s = summed_at (weight_by Mark) c.sum-of-sum.result c.records-2.result.now cs c.sum-of-sum.ensures c.records-2.ensures in
+    let m = summed_at (weight_by Transit) c.sum_of-moving.result c.records.result.now cs c.sum_of-moving.ensures c.records.ensures in
+    let s = summed_at (weight_by Mark) c.sum_of-sum.result c.records-2.result.now cs c.sum_of-sum.ensures c.records-2.ensures in
     let still = sym m ∙ c.if-moving-ne0.false in
     let t = c.thousandths-total.ensures ∙ c.capability.ensures in
     record {
@@ -34,20 +34,20 @@ returns-then-sum-eq0 g c =
         | then-sum-eq0-via-then-sum-eq0 v ↦ close_unmarked g.D.Divider.meaning c.args.self cs c.args.weights.now c.args.shares.now w still (sym s ∙ v.if-sum-eq0.true)
         | then-sum-eq0-via-else-sum-eq0+then-not-divisible v ↦
             close_spoiled g.D.Divider.meaning c.args.self cs c.args.weights.now c.args.shares.now w still (λ z. v.if-sum-eq0.false (s ∙ z))
-            (divisible_at c.thousandths-total.result c.args.self.header.capability c.sum-of-sum.result (sum_by (weight_by Mark) cs) v.divisible.result false t s v.divisible.ensures v.if-not-divisible.true)
+            (divisible_at c.thousandths-total.result c.args.self.header.capability c.sum_of-sum.result (sum_by (weight_by Mark) cs) v.divisible.result false t s v.divisible.ensures v.if-not-divisible.true)
       ];
       kept = kept_same key c.args.customers.now;
     }
 
-pub share-out-requires : goal.share-out-requires
-share-out-requires g c =
+pub share_out-requires : goal.share_out-requires
+share_out-requires g c =
     let cs = records c.args.customers.now in
     let w = wide_at c.len.result cs c.args.weights.now c.args.shares.now c.wide.result true c.len.ensures c.wide.ensures c.if-not-wide.false in
-    let s = summed_at (weight_by Mark) c.sum-of-sum.result c.records-2.result.now cs c.sum-of-sum.ensures c.records-2.ensures in
+    let s = summed_at (weight_by Mark) c.sum_of-sum.result c.records-2.result.now cs c.sum_of-sum.ensures c.records-2.ensures in
     record {
       weighed = wide_weights (length cs) c.args.weights.now c.args.shares.now w;
       wide = wide_shares (length cs) c.args.weights.now c.args.shares.now w;
-      passes = passing c.thousandths-total.result c.sum-of-sum.result (weight_by Mark) cs s c.if-sum-eq0.false c.divisible.result c.divisible.ensures c.if-not-divisible.false;
+      passes = passing c.thousandths-total.result c.sum_of-sum.result (weight_by Mark) cs s c.if-sum-eq0.false c.divisible.result c.divisible.ensures c.if-not-divisible.false;
       small = omega (arith, c.thousandths-total.ensures, c.capability.result.within.1);
     }
 
@@ -56,10 +56,10 @@ returns g c =
     let cs = records c.args.customers.now in
     let t = c.thousandths-total.ensures ∙ c.capability.ensures in
     let w = wide_at c.len.result cs c.args.weights.now c.args.shares.now c.wide.result true c.len.ensures c.wide.ensures c.if-not-wide.false in
-    let m = summed_at (weight_by Transit) c.sum-of-moving.result c.records.result.now cs c.sum-of-moving.ensures c.records.ensures in
-    let s = summed_at (weight_by Mark) c.sum-of-sum.result c.records-2.result.now cs c.sum-of-sum.ensures c.records-2.ensures in
-    let d = divisible_at c.thousandths-total.result c.args.self.header.capability c.sum-of-sum.result (sum_by (weight_by Mark) cs) c.divisible.result true t s c.divisible.ensures c.if-not-divisible.false in
+    let m = summed_at (weight_by Transit) c.sum_of-moving.result c.records.result.now cs c.sum_of-moving.ensures c.records.ensures in
+    let s = summed_at (weight_by Mark) c.sum_of-sum.result c.records-2.result.now cs c.sum_of-sum.ensures c.records-2.ensures in
+    let d = divisible_at c.thousandths-total.result c.args.self.header.capability c.sum_of-sum.result (sum_by (weight_by Mark) cs) c.divisible.result true t s c.divisible.ensures c.if-not-divisible.false in
     record {
-      done = close_done g.D.Divider.meaning c.args.self cs c.args.weights.now c.args.shares.now w (sym m ∙ c.if-moving-ne0.false) (λ z. c.if-sum-eq0.false (s ∙ z)) d c.thousandths-total.result t (records c.share-out.new.customers) c.share-out.new.weights c.share-out.new.shares c.share-out.ensures.done c.share-out.ensures.sheets c.into-closed.result c.into-closed.ensures;
-      kept = c.share-out.ensures.kept;
+      done = close_done g.D.Divider.meaning c.args.self cs c.args.weights.now c.args.shares.now w (sym m ∙ c.if-moving-ne0.false) (λ z. c.if-sum-eq0.false (s ∙ z)) d c.thousandths-total.result t (records c.share_out.new.customers) c.share_out.new.weights c.share_out.new.shares c.share_out.ensures.done c.share_out.ensures.sheets c.into_closed.result c.into_closed.ensures;
+      kept = c.share_out.ensures.kept;
     }

@@ -8,14 +8,14 @@ use Rattle.book.specs.Marks.{remarked}
 use Rattle.book.proofs.Transfers.{carried_missing, carried_is, land_lost, land_spoiled, land_done}
 use Rattle.book.proofs.stages.OpenBook.land.Goals as goal
 
-pub returns-in-default : goal.returns-in-default
-returns-in-default g c = record { done = land_lost (records c.args.customers.now) c.args.parcel c.args.receiver (carried_missing (records c.args.customers.now) c.args.parcel (rw c.open-giver.ensures at c.in-default.ensures.0)); kept = kept_same key c.args.customers.now }
+pub returns-in_default : goal.returns-in_default
+returns-in_default g c = record { done = land_lost (records c.args.customers.now) c.args.parcel c.args.receiver (carried_missing (records c.args.customers.now) c.args.parcel (rw c.open-giver.ensures at c.in_default.ensures.0)); kept = kept_same key c.args.customers.now }
 
 pub returns-then-from-eq0 : goal.returns-then-from-eq0
 returns-then-from-eq0 g c = record { done = land_lost (records c.args.customers.now) c.args.parcel c.args.receiver (carried_is (records c.args.customers.now) c.args.parcel c.in-Ok.from (rw c.open-giver.ensures at c.in-Ok.ensures) ∙ c.if-from-eq0.true); kept = kept_same key c.args.customers.now }
 
-pub returns-in-default-raised : goal.returns-in-default-raised
-returns-in-default-raised g c = record { done = land_spoiled (records c.args.customers.now) c.args.parcel c.in-Ok.from (rw c.open-giver.ensures at c.in-Ok.ensures) c.if-from-eq0.false c.args.receiver c.in-Ok-get.to c.in-Ok-get.ensures (λ e. c.if-receiver-giver.false (e ∙ sym c.open-giver.ensures)) c.in-default-raised.ensures.0; kept = kept_same key c.args.customers.now }
+pub returns-in_default-raised : goal.returns-in_default-raised
+returns-in_default-raised g c = record { done = land_spoiled (records c.args.customers.now) c.args.parcel c.in-Ok.from (rw c.open-giver.ensures at c.in-Ok.ensures) c.if-from-eq0.false c.args.receiver c.in-Ok-get.to c.in-Ok-get.ensures (λ e. c.if-receiver-giver.false (e ∙ sym c.open-giver.ensures)) c.in_default-raised.ensures.0; kept = kept_same key c.args.customers.now }
 
 pub returns : goal.returns
 returns g c =

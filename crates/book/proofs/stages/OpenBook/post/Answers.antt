@@ -6,26 +6,26 @@ use Rattle.book.specs.Lines.{key}
 use Rattle.book.proofs.Postings.{post_out, post_unknown, post_full, post_taken, post_over}
 use Rattle.book.proofs.stages.OpenBook.post.Goals as goal
 
-pub returns-then-not-in-range : goal.returns-then-not-in-range
-returns-then-not-in-range g c =
-    record { done = post_out c.args.self.now (room c.args.lines.now) (records c.args.lines.now) c.args.number c.args.posting c.args.amount.amount c.if-not-in-range.ensures; kept = kept_same key c.args.lines.now }
+pub returns-then-not-in_range : goal.returns-then-not-in_range
+returns-then-not-in_range g c =
+    record { done = post_out c.args.self.now (room c.args.lines.now) (records c.args.lines.now) c.args.number c.args.posting c.args.amount.amount c.if-not-in_range.ensures; kept = kept_same key c.args.lines.now }
 
-pub returns-in-default : goal.returns-in-default
-returns-in-default g c =
-    record { done = post_unknown c.args.self.now (room c.args.lines.now) (records c.args.lines.now) c.args.number c.args.posting c.args.amount.amount c.if-not-in-range.ensures c.in-default.ensures; kept = kept_same key c.args.lines.now }
+pub returns-in_default : goal.returns-in_default
+returns-in_default g c =
+    record { done = post_unknown c.args.self.now (room c.args.lines.now) (records c.args.lines.now) c.args.number c.args.posting c.args.amount.amount c.if-not-in_range.ensures c.in_default.ensures; kept = kept_same key c.args.lines.now }
 
-pub returns-then-is-full : goal.returns-then-is-full
-returns-then-is-full g c =
-    record { done = post_full c.args.self.now (room c.args.lines.now) (records c.args.lines.now) c.args.number c.args.posting c.args.amount.amount c.if-not-in-range.ensures c.in-Some.entry c.in-Some.ensures c.if-is-full.ensures; kept = kept_same key c.args.lines.now }
+pub returns-then-is_full : goal.returns-then-is_full
+returns-then-is_full g c =
+    record { done = post_full c.args.self.now (room c.args.lines.now) (records c.args.lines.now) c.args.number c.args.posting c.args.amount.amount c.if-not-in_range.ensures c.in-Some.entry c.in-Some.ensures c.if-is_full.ensures; kept = kept_same key c.args.lines.now }
 
-pub returns-then-is-ok : goal.returns-then-is-ok
-returns-then-is-ok g c =
-    let free = place_free c.args.lines.now c.is-full.result c.is-full.ensures c.if-is-full.false in
+pub returns-then-is_ok : goal.returns-then-is_ok
+returns-then-is_ok g c =
+    let free = place_free c.args.lines.now c.is_full.result c.is_full.ensures c.if-is_full.false in
     let found = sought_ok (lookup key c.args.number (records c.args.lines.now)) c.get.result c.get.ensures in
-    record { done = post_taken c.args.self.now (room c.args.lines.now) (records c.args.lines.now) c.args.number c.args.posting c.args.amount.amount c.if-not-in-range.ensures c.in-Some.entry c.in-Some.ensures free (is_ok c.get.result) found c.if-is-ok.ensures.value; kept = kept_same key c.args.lines.now }
+    record { done = post_taken c.args.self.now (room c.args.lines.now) (records c.args.lines.now) c.args.number c.args.posting c.args.amount.amount c.if-not-in_range.ensures c.in-Some.entry c.in-Some.ensures free (is_ok c.get.result) found c.if-is_ok.ensures.value; kept = kept_same key c.args.lines.now }
 
-pub returns-then-not-all-stay : goal.returns-then-not-all-stay
-returns-then-not-all-stay g c =
-    let free = place_free c.args.lines.now c.is-full.result c.is-full.ensures c.if-is-full.false in
+pub returns-then-not-all_stay : goal.returns-then-not-all_stay
+returns-then-not-all_stay g c =
+    let free = place_free c.args.lines.now c.is_full.result c.is_full.ensures c.if-is_full.false in
     let found = sought_ok (lookup key c.args.number (records c.args.lines.now)) c.get.result c.get.ensures in
-    record { done = post_over c.args.self.now (room c.args.lines.now) (records c.args.lines.now) c.args.number c.args.posting c.args.amount.amount c.if-not-in-range.ensures c.in-Some.entry c.in-Some.ensures free (is_ok c.get.result) found c.if-is-ok.ensures.value c.amount-cents.result c.amount-cents.ensures c.if-not-all-stay.ensures; kept = kept_same key c.args.lines.now }
+    record { done = post_over c.args.self.now (room c.args.lines.now) (records c.args.lines.now) c.args.number c.args.posting c.args.amount.amount c.if-not-in_range.ensures c.in-Some.entry c.in-Some.ensures free (is_ok c.get.result) found c.if-is_ok.ensures.value c.amount-cents.result c.amount-cents.ensures c.if-not-all_stay.ensures; kept = kept_same key c.args.lines.now }
