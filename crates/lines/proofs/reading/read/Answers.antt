@@ -27,12 +27,12 @@ pub read_field-requires : goal.read_field-requires
 read_field-requires c =
     compared_next c.in-Some.letter (parted 44 c.args.line.now) c.loop-i.fields (parts_after 44 c.loop-i.rest) c.loop-i.i c.loop-i.invariant
 
-pub returns-in_default-default : goal.returns-in_default-default
-returns-in_default-default c =
+pub returns-in_default-rest : goal.returns-in_default-rest
+returns-in_default-rest c =
     let fs = parted 44 c.args.line.now in
     let known = letter_found fs c.split.result.0.now (parts_after 44 c.split.result.1) (Some c.in-Some.letter) letter_of c.split.ensures c.in-Some.ensures in
     record {
-      reads = walked_short c.in-Some.letter fs c.loop-i.fields (parts_after 44 c.loop-i.rest) c.loop-i.i c.loop-i.invariant known (ap (parts_after 44) c.in_default-default.is) (omega (arith, c.count-i-end.ensures.is));
+      reads = walked_short c.in-Some.letter fs c.loop-i.fields (parts_after 44 c.loop-i.rest) c.loop-i.i c.loop-i.invariant known (ap (parts_after 44) c.in_default-rest.is) (omega (arith, c.count-i-end.ensures.is));
       writes = tt;
       ranged = tt;
     }
@@ -40,14 +40,14 @@ returns-in_default-default c =
 pub loop-i-preserved : goal.loop-i-preserved
 loop-i-preserved c =
     let fs = parted 44 c.args.line.now in
-    walked_more c.in-Some.letter fs c.loop-i.fields (parts_after 44 c.loop-i.rest) c.loop-i.i c.loop-i.invariant c.split-in-loop-i.result.0.now (parts_after 44 c.split-in-loop-i.result.1) c.in-Ok.field (c.split-in-loop-i.ensures ∙ ap (parts_after 44) (sym c.in-Some-default.is) ∙ c.loop-i.invariant.1) c.loop-i.auto.i (omega (arith, c.count-i-end.ensures.few)) c.in-Ok.ensures
+    walked_more c.in-Some.letter fs c.loop-i.fields (parts_after 44 c.loop-i.rest) c.loop-i.i c.loop-i.invariant c.split-in-loop-i.result.0.now (parts_after 44 c.split-in-loop-i.result.1) c.in-Ok.field (c.split-in-loop-i.ensures ∙ ap (parts_after 44) (sym c.in-Some-rest.is) ∙ c.loop-i.invariant.1) c.loop-i.auto.i (omega (arith, c.count-i-end.ensures.few)) c.in-Ok.ensures
 
 pub returns-in-Err : goal.returns-in-Err
 returns-in-Err c =
     let fs = parted 44 c.args.line.now in
     let known = letter_found fs c.split.result.0.now (parts_after 44 c.split.result.1) (Some c.in-Some.letter) letter_of c.split.ensures c.in-Some.ensures in
     record {
-      reads = walked_fault c.in-Some.letter fs c.loop-i.fields (parts_after 44 c.loop-i.rest) c.loop-i.i c.loop-i.invariant known c.split-in-loop-i.result.0.now (parts_after 44 c.split-in-loop-i.result.1) c.in-Err.refusal c.faulted.result (c.split-in-loop-i.ensures ∙ ap (parts_after 44) (sym c.in-Some-default.is) ∙ c.loop-i.invariant.1) c.loop-i.auto.i (omega (arith, c.count-i-end.ensures.is)) c.in-Err.ensures c.faulted.ensures;
+      reads = walked_fault c.in-Some.letter fs c.loop-i.fields (parts_after 44 c.loop-i.rest) c.loop-i.i c.loop-i.invariant known c.split-in-loop-i.result.0.now (parts_after 44 c.split-in-loop-i.result.1) c.in-Err.refusal c.faulted.result (c.split-in-loop-i.ensures ∙ ap (parts_after 44) (sym c.in-Some-rest.is) ∙ c.loop-i.invariant.1) c.loop-i.auto.i (omega (arith, c.count-i-end.ensures.is)) c.in-Err.ensures c.faulted.ensures;
       writes = tt;
       ranged = tt;
     }
