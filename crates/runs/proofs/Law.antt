@@ -1,5 +1,5 @@
 -- Every run of a founded book is sound: by induction over its calls.
-use Rattle.std.proofs.Common.{◌≡◌, ℕ, ◌+◌, ◌<◌, ◌≤◌, Bool, cond, List, [], ◌∷◌, ℤ, is_ok, Some, None, refl, ap, ◌∙◌, inl, inr, arith}
+use Rattle.std.proofs.Common.{◌≡◌, ℕ, ◌+◌, ◌<◌, ◌≤◌, Bool, cond, List, [], ◌∷◌, ℤ, is_ok, Some, None, Ok, refl, ap, ◌∙◌, inl, inr, arith}
 use Rattle.std.specs.List.{AllByRecursion as All}
 use Rattle.std.proofs.lemmas.Bool.{cond_both}
 use Rattle.records.specs.declared.customer.Customer.{Customer}
@@ -7,17 +7,18 @@ use Rattle.records.specs.declared.cost_line.CostLine.{CostLine}
 use Rattle.records.specs.declared.pool.Pool.{Pool}
 use Rattle.records.specs.declared.pool.Pool.TheVariants.{Composite, NonSlice, Slice, Tier2}
 use Rattle.book.specs.declared.refusal.Refusal.TheVariants.{Spoiled}
+use Rattle.book.specs.declared.stages.Intake.{Intake}
 use Rattle.book.specs.declared.stages.OpenBook.{OpenBook}
 use Rattle.book.specs.declared.stages.ClosedBook.{ClosedBook}
 use Rattle.book.specs.Sides.{cost}
-use Rattle.book.specs.Rates.{Meaning}
+use Rattle.book.specs.Rates.{Meaning, Founds}
 use Rattle.runs.specs.History.{Event, closing, refusal, grants, lines_of, bill_of, cost_by, credits, Billed}
-use Rattle.runs.specs.Runs.{AlwaysSound, Stage, open_book, shut_book, World, at, Step, grant, lift, land, return, post, strike, stay, close, bill, Run, start, next, held, on_the_way, Rated, Paid, Closing, LawfulMeaning, BooksStaySound}
-use Rattle.runs.proofs.Founding.{found_starts}
+use Rattle.runs.specs.Runs.{AlwaysSound, Stage, open_book, shut_book, World, at, Step, grant, lift, land, return, post, strike, stay, close, bill, Run, start, next, held, on_the_way, Rated, Paid, Closing, Reconciling, LawfulMeaning, Entered, StaysReconciled, BooksStaySound}
+use Rattle.runs.proofs.Founding.{Starts, found_starts}
 use Rattle.runs.proofs.Marks.{MarksKept, same_marks, grant_keeps, grant_unspoiled, lift_keeps, lift_unspoiled, land_keeps, land_unspoiled, return_keeps, return_unspoiled}
-use Rattle.runs.proofs.Lines.{LinesKept, none_kept, others_keep, post_keeps, post_unspoiled, strike_keeps, strike_unspoiled}
+use Rattle.runs.proofs.Lines.{LinesKept, cost_is, none_kept, others_keep, post_keeps, post_unspoiled, strike_keeps, strike_unspoiled}
 use Rattle.runs.proofs.Charges.{Bounded, bill_keeps, bill_unspoiled, paid_by_lines, all_paid}
-use Rattle.runs.proofs.Rates.{stay_same, stay_unspoiled, close_shuts, close_keeps}
+use Rattle.runs.proofs.Rates.{stay_same, stay_unspoiled, close_shuts, close_arrived, close_keeps}
 
 -- A part of the book that a call changes in neither case.
 same_part : {A B : Type 0} (f : A → B) (t : Bool) {x y z : A} → z ≡ cond t x y → f x ≡ f y → f z ≡ f y
@@ -45,6 +46,7 @@ module _ {D : Type 0} (m : D → Meaning) (fair : (d : D) → LawfulMeaning (m d
 
     record ShutKept (es : List Event) (c : ClosedBook D) (cs : List Customer) (ls : List CostLine) (ch : List ℤ) : Type 0 where
       marks : MarksKept total es c.granted cs
+      arrived : on_the_way cs ≡ 0
       rated : Rated capability cs
       lines : LinesKept es c.costs c.credits ls
       paid : (p : Pool) → Billed p es → Paid p (cost c.costs c.credits p) cs ch
@@ -99,6 +101,7 @@ module _ {D : Type 0} (m : D → Meaning) (fair : (d : D) → LawfulMeaning (m d
         let shut = close_shuts m fair k in (
           record {
             marks = close_keeps m fair k h.marks;
+            arrived = shut.carries ∙ close_arrived m fair k;
             rated = rw h.same at shut.rated;
             lines = rw shut.book (others_keep (λ struck. refl) h.lines);
             paid = λ p billed. absurd (still_unbilled es closing refl h.unbilled p billed);
@@ -109,6 +112,7 @@ module _ {D : Type 0} (m : D → Meaning) (fair : (d : D) → LawfulMeaning (m d
         let bounded : Bounded cs = record { count = h.marks.few; elected = h.marks.small; rhwms = omega (arith, h.rated.adds_up) } in (
           record {
             marks = same_marks e refl h.marks;
+            arrived = h.arrived;
             rated = h.rated;
             lines = others_keep (λ struck. refl) h.lines;
             paid = bill_keeps m c cs bounded h.lines.within fair r k es h.paid;
@@ -135,20 +139,35 @@ module _ {D : Type 0} (m : D → Meaning) (fair : (d : D) → LawfulMeaning (m d
           },
         )
 
+    reconciled : (es : List Event) (s : Stage D) (cs : List Customer) (ls : List CostLine) (ch : List ℤ) → KeptAt es s cs ls ch → Reconciling es s cs
+    reconciled es (open_book b) cs ls ch h = tt
+    reconciled es (shut_book c) cs ls ch h = record { arrived = h.arrived; costs = cost_is h.lines }
+
+  -- a book that was just founded
+  founded : {intake : Intake D} {b : OpenBook D} {cs : List Customer} (starts : Starts intake b cs) → OpenKept intake.header.founding_total intake.header.capability starts.some starts.total starts.able [] b cs []
+  founded starts = record {
+    marks = starts.marks;
+    same = starts.capability;
+    lines = rw (starts.costs, starts.credits) (none_kept);
+    unbilled = λ p none. none;
+  }
+
   pub books_stay_sound : BooksStaySound m
   books_stay_sound intake b cs cs' ws ss ws' ss' entered founds charges es w r =
       let starts = found_starts m fair entered founds in
       let total = intake.header.founding_total in
       let capability = intake.header.capability in
-      let first : OpenKept total capability starts.some starts.total starts.able [] b cs' [] = record {
-        marks = starts.marks;
-        same = starts.capability;
-        lines = rw (starts.costs, starts.credits) (none_kept);
-        unbilled = λ p none. none;
-      } in
-      let kept = run total capability starts.some starts.total starts.able first es r in
+      let kept = run total capability starts.some starts.total starts.able (founded starts) es r in
       let end = settled total capability starts.some starts.total starts.able es w.stage w.customers w.lines w.charges kept.0 in
       record { balanced = end.0; settled = end.1; unspoiled = kept.1 }
+
+  pub books_stay_reconciled : (intake : Intake D) (b : OpenBook D) (cs cs' : List Customer) (ws ss ws' ss' : List ℕ) → Entered cs → Founds m intake cs ws ss (Ok b) cs' ws' ss' → StaysReconciled m b cs'
+  books_stay_reconciled intake b cs cs' ws ss ws' ss' entered founds charges es w r =
+      let starts = found_starts m fair entered founds in
+      let total = intake.header.founding_total in
+      let capability = intake.header.capability in
+      let kept = run total capability starts.some starts.total starts.able (founded starts) es r in
+      reconciled total capability starts.some starts.total starts.able es w.stage w.customers w.lines w.charges kept.0
 
 pub always_sound : AlwaysSound
 always_sound = books_stay_sound (λ d. d.meaning) (λ d. d.fair)

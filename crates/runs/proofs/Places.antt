@@ -15,13 +15,13 @@ module _ {A : Type 0} (sheet : List A) (a : ℕ) (values : List A) (fits : a + l
   part_same =
       ap (take (length values)) (drop_at (take a sheet) (values ++ drop (a + length values) sheet) a front) ∙ take_at values (drop (a + length values) sheet) (length values) refl
 
-  get_d_before : (i : ℕ) (d : A) → i < a → get_or (written sheet a values) i d ≡ get_or sheet i d
-  get_d_before i d h =
+  get_or-before : (i : ℕ) (d : A) → i < a → get_or (written sheet a values) i d ≡ get_or sheet i d
+  get_or-before i d h =
       let inside : i < length (take a sheet) = omega (arith, front) in
       get_or_append_left (take a sheet) (values ++ drop (a + length values) sheet) d i inside ∙ get_or-take a sheet i d h
 
-  get_d_behind : (i : ℕ) (d : A) → a + length values ≤ i → get_or (written sheet a values) i d ≡ get_or sheet i d
-  get_d_behind i d h =
+  get_or-behind : (i : ℕ) (d : A) → a + length values ≤ i → get_or (written sheet a values) i d ≡ get_or sheet i d
+  get_or-behind i d h =
       let past : a ≤ i = omega arith in
       let more : length values ≤ i - a = omega arith in
       let back : a + length values + (i - a - length values) ≡ i = omega arith in
@@ -36,7 +36,7 @@ module _ {A : Type 0} (sheet : List A) (a : ℕ) (values : List A) (fits : a + l
 
   -- A part that lies before or behind it is as it was.
   pub part_before : (b n : ℕ) → b + n ≤ a → part (written sheet a values) b n ≡ part sheet b n
-  part_before b n h = part_by b n (λ k d l. get_d_before (b + k) d (omega arith))
+  part_before b n h = part_by b n (λ k d l. get_or-before (b + k) d (omega arith))
 
   pub part_behind : (b n : ℕ) → a + length values ≤ b → part (written sheet a values) b n ≡ part sheet b n
-  part_behind b n h = part_by b n (λ k d l. get_d_behind (b + k) d (omega arith))
+  part_behind b n h = part_by b n (λ k d l. get_or-behind (b + k) d (omega arith))

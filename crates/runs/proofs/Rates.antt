@@ -21,7 +21,7 @@ use Rattle.runs.specs.Runs.{held, on_the_way, Rated, LawfulMeaning}
 use Rattle.runs.proofs.Asked.{staged_ok, staged_err}
 use Rattle.runs.proofs.Near.{within_one}
 use Rattle.book.proofs.Portions.{length_with}
-use Rattle.runs.proofs.Written.{all_written, sum_by_left, sum_by_made, get_d_written, divisible_passes}
+use Rattle.runs.proofs.Written.{all_written, sum_by_left, sum_by_made, get_or-written, divisible_passes}
 use Rattle.runs.proofs.Marks.{MarksKept, Small, same_marks}
 
 -- What an accepted close leaves.
@@ -73,7 +73,7 @@ module _ {D : Type 0} (m : D → Meaning) where
                 let inside : k < length cs = omega arith in
                 let weighs : k < length marks = rw length-map inside in
                 let mark = get_or-map (λ x. x.mark) cs k nobody 0 inside in
-                let here : get_or cs' k nobody ≡ rated (get_or cs k nobody) (get_or shares k 0) = ap (λ (t : List Customer). get_or t k nobody) is ∙ get_d_written rated shares cs k nobody long inside in
+                let here : get_or cs' k nobody ≡ rated (get_or cs k nobody) (get_or shares k 0) = ap (λ (t : List Customer). get_or t k nobody) is ∙ get_or-written rated shares cs k nobody long inside in
                 let near : Near b.header.capability (held cs) (get_or cs k nobody).mark (get_or shares k 0) = rw (sum-map (λ x. x.mark) cs, mark) at (law.near k weighs) in
                 rw (here, holds, mul_comm (get_or cs k nobody).mark b.header.capability) (within_one b.header.capability (held cs) (get_or cs k nobody).mark (get_or shares k 0) above near);
           };
@@ -82,6 +82,12 @@ module _ {D : Type 0} (m : D → Meaning) where
           count = count;
           small = λ h. rw is (all_written rated Small (λ x n p. p) shares cs h);
         }
+
+    -- a book with a load on the way is not closed
+    pub close_arrived : on_the_way cs ≡ 0
+    close_arrived =
+        let asks : close_asks m b cs ws ss ≡ None = (staged_ok b (closed b) c (close_asks m b cs ws ss) s.answer).0 in
+        grind (arith, nat_tests)
 
     pub close_keeps : {total : ℕ} {es : List Event} → MarksKept total es b.granted cs → MarksKept total (closing ∷ es) c.granted cs'
     close_keeps k =

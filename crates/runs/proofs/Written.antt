@@ -32,11 +32,11 @@ module _ (w : Customer → ℕ → Customer) where
   sum_by_made f g made (s ∷ shares) (c ∷ cs) e =
       omega (arith, sum_by-cons f (w c s) (with_shares w shares cs), sum_by-cons g s shares, made c s, sum_by_made f g made shares cs (omega arith))
 
-  pub get_d_written : (shares : List ℕ) (cs : List Customer) (k : ℕ) (d : Customer) → length shares ≡ length cs → k < length cs → get_or (with_shares w shares cs) k d ≡ w (get_or cs k d) (get_or shares k 0)
-  get_d_written shares [] k d e lt = absurd (omega arith)
-  get_d_written [] (c ∷ cs) k d e lt = absurd (omega arith)
-  get_d_written (s ∷ shares) (c ∷ cs) zero d e lt = refl
-  get_d_written (s ∷ shares) (c ∷ cs) (suc k) d e lt = get_d_written shares cs k d (omega arith) (omega arith)
+  pub get_or-written : (shares : List ℕ) (cs : List Customer) (k : ℕ) (d : Customer) → length shares ≡ length cs → k < length cs → get_or (with_shares w shares cs) k d ≡ w (get_or cs k d) (get_or shares k 0)
+  get_or-written shares [] k d e lt = absurd (omega arith)
+  get_or-written [] (c ∷ cs) k d e lt = absurd (omega arith)
+  get_or-written (s ∷ shares) (c ∷ cs) zero d e lt = refl
+  get_or-written (s ∷ shares) (c ∷ cs) (suc k) d e lt = get_or-written shares cs k d (omega arith) (omega arith)
 
 -- What a book asks before it divides is what the divider asks.
 pub divisible_passes : (f : Customer → ℕ) (cs : List Customer) (total : ℕ) → 0 < sum_by f cs → divisible total (sum_by f cs) ≡ true → Passes total (map f cs)

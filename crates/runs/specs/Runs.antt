@@ -20,6 +20,7 @@ use Rattle.book.specs.declared.stages.ClosedBook.{ClosedBook}
 use Rattle.book.specs.Customers.{nobody, marked, rated, Enters}
 use Rattle.book.specs.Marks.{Grants, Lifts, Lands, Returns}
 use Rattle.book.specs.Lines.{Posts, Strikes}
+use Rattle.book.specs.Sides.{cost}
 use Rattle.book.specs.Rates.{Meaning, Founds, Closes, Bills, size, part}
 use Rattle.runs.specs.History.{Event, granting, lifting, landing, returning, posting, striking, staying, closing, billing, refusal, grants, lines_of, cost_by, expenses, credits, Billed}
 
@@ -121,6 +122,20 @@ pub record Sound {D : Type 0} (total capability : ℕ) (es : List Event) (w : Wo
 abbrev pub StaysSound : {D : Type 0} → (D → Meaning) → ℕ → ℕ → OpenBook D → List Customer → Type 0
 StaysSound {D} m total capability b cs =
     (charges : List ℤ) (es : List Event) (w : World D) → Run m (at (open_book b) cs [] charges) es w → Sound total capability es w
+
+-- What holds besides of a closed book: nothing is on the way, and the costs that it keeps are those of its lines.
+pub record Reconciled {D : Type 0} (es : List Event) (c : ClosedBook D) (cs : List Customer) : Type 0 where
+  pub arrived : on_the_way cs ≡ 0
+  pub costs : (p : Pool) → cost c.costs c.credits p ≡ cost_by (lines_of es) p
+
+abbrev pub Reconciling : {D : Type 0} → List Event → Stage D → List Customer → Type 0
+Reconciling es (open_book b) cs = Unit {0}
+Reconciling es (shut_book c) cs = Reconciled es c cs
+
+-- In every run of this book, over these customers and an empty cost register, a closed book is reconciled.
+abbrev pub StaysReconciled : {D : Type 0} → (D → Meaning) → OpenBook D → List Customer → Type 0
+StaysReconciled {D} m b cs =
+    (charges : List ℤ) (es : List Event) (w : World D) → Run m (at (open_book b) cs [] charges) es w → Reconciling es w.stage w.customers
 
 -- The laws of a divider's meaning.
 abbrev pub LawfulMeaning : Meaning → Type 0

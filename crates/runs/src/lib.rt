@@ -2,12 +2,12 @@
 //! holds after every one of them, under every divider within its laws.
 #![tactic(auto)]
 
-ghost use Rattle.std.specs.Prelude.{◌≡◌, MatchResult, ◌≢◌};
+ghost use Rattle.std.specs.Prelude.{◌≡◌, MatchResult, IfOk, ◌≢◌};
 ghost use Rattle.register.specs.Register.{records, Kept};
 ghost use Rattle.book.specs.Customers.{key};
 ghost use Rattle.book.specs.Rates.{Founds};
 ghost use Rattle.book.specs.declared.refusal.Refusal.TheVariants.{Spoiled};
-ghost use Rattle.runs.specs.Runs.{Entered, StaysSound, AlwaysSound};
+ghost use Rattle.runs.specs.Runs.{Entered, StaysSound, StaysReconciled, AlwaysSound};
 
 use book::{Intake, OpenBook, Refusal};
 use divider::Divider;
@@ -23,7 +23,8 @@ use register::Register;
 /// (24); a refusal hands the intake back. Over customers that all came by
 /// accepted enters, every run of the book is sound: marks balance, the RHWMs
 /// add up to the capability, the charges to the costs, no share is a whole
-/// unit off, and neither this call nor a later one answers 24.
+/// unit off, and neither this call nor a later one answers 24; a closed book
+/// has nothing on the way, and keeps the costs of its lines.
 pub fn found<D: Divider>(
     intake: Intake<D>,
     customers: &mut Register<'_, Customer>,
@@ -33,6 +34,7 @@ pub fn found<D: Divider>(
     ensures done { Founds D.Divider.meaning intake (records customers.old) weights.old shares.old result (records customers.new) weights.new shares.new }
     ensures kept { Kept key customers.old customers.new }
     ensures runs { MatchResult result (λ b. Entered (records customers.old) → StaysSound D.Divider.meaning intake.header.founding_total intake.header.capability b (records customers.new)) (λ back. Entered (records customers.old) → back.1 ≢ Spoiled) }
+    ensures closes { IfOk result (λ b. Entered (records customers.old) → StaysReconciled D.Divider.meaning b (records customers.new)) }
 {
     intake.found(customers, weights, shares)
 }
