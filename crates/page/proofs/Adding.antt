@@ -16,7 +16,7 @@ use Rattle.lines.specs.Lines.{Contents, header, customer, cost, grant, transfer,
 use Rattle.runs.specs.History.{Event, granting, lifting, landing, posting, closing, billing, grants, grant_of, Billed}
 use Rattle.runs.specs.Runs as runs
 use Rattle.runs.specs.Runs.{sumℤ, charges_in, open_book, World, at, Run, start, next, Entered, one_more, LawfulMeaning}
-use Rattle.runs.proofs.Law.{books_stay_sound}
+use Rattle.runs.proofs.Law.{books_stay_sound, books_stay_reconciled}
 use Rattle.page.specs.declared.fault.Cause.{Cause}
 use Rattle.page.specs.declared.fault.Fault.{Fault}
 use Rattle.page.specs.Pages as page
@@ -101,11 +101,12 @@ module _ {D : Type 0} (m : D → Meaning) (fair : (d : D) → LawfulMeaning (m d
       let es = closing ∷ played_run.events in
       let sound = books_stay_sound m fair intake b cs cs₁ ws ss ws' ss' entered f ch (all_billed es) _ run in
       let done = sound.settled in
+      let reconciled = books_stay_reconciled m fair intake b cs cs₁ ws ss ws' ss' entered f ch (all_billed es) _ run in
       let granted = played_run.counts in
       record {
-        marks = omega (arith, sound.balanced, done.arrived, billed_grants es, count_more closing played_run.events _ granted);
+        marks = omega (arith, sound.balanced, reconciled.arrived, billed_grants es, count_more closing played_run.events _ granted);
         rhwms = done.rated.adds_up;
-        charges = λ p. (done.paid p (billed_in es p)).adds_up ∙ sym (done.costs p);
+        charges = λ p. (done.paid p (billed_in es p)).adds_up ∙ sym (reconciled.costs p);
       }
 
 heads_header : (r : Reading) (h : Header) (rs : List Reading) → Heads r (Ok h) → (h.founding_total ≡ founding_total (r ∷ rs)) × (h.capability ≡ capability (r ∷ rs)) × (grant_in r ≡ 0)
