@@ -6,9 +6,9 @@ mod listing_of;
 mod reading;
 mod sentence;
 
-use anyhow::anyhow;
 use divider::Divider;
 use std::io::Write;
+use std::process::ExitCode;
 use std::{env, io};
 
 const USAGE: &str = "reads a page of lines from standard input, and prints its listing
@@ -35,10 +35,10 @@ fn print_bytes(rt: &HostRuntime, bytes: &[u8]) -> io::Result<()> {
 }
 
 /// Runs the program of a divider.
-pub fn run<D: Divider + Drop>(rt: &HostRuntime, divider: D, name: &str) -> anyhow::Result<()> {
+pub fn run<D: Divider + Drop>(rt: &HostRuntime, divider: D, name: &str) -> io::Result<ExitCode> {
     if asks_help(rt)? {
         eprintln!(rt; "usage: {name} < PAGE\n\n{name} {USAGE}")?;
-        return Ok(());
+        return Ok(ExitCode::SUCCESS);
     }
     let mut memory = [0; 65_537];
     let length = reading::read_page(rt, &mut memory)?;
@@ -48,14 +48,14 @@ pub fn run<D: Divider + Drop>(rt: &HostRuntime, divider: D, name: &str) -> anyho
         Ok(mut billed) => {
             let count = listing_of::write_listing(&mut billed, page, &mut output);
             print_bytes(rt, &output[..count])?;
-            Ok(())
+            Ok(ExitCode::SUCCESS)
         }
         Err(fault) => {
             if let Ok(count) = page::fault_row(fault, &mut output) {
                 print_bytes(rt, &output[..count])?;
             }
             sentence::tell(rt, name, page, fault)?;
-            Err(anyhow!("refused"))
+            Ok(ExitCode::FAILURE)
         }
     }
 }

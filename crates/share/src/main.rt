@@ -1,9 +1,9 @@
 //! Shares a total out by weights: `share largest 101 50 30 20`.
 #![tactic(auto)]
 
-use anyhow::anyhow;
 use sharing::answer;
 use std::alloc::Global;
+use std::process::ExitCode;
 use std::{env, io};
 
 const USAGE: &str = "usage: share RULE TOTAL WEIGHT...
@@ -33,23 +33,23 @@ fn asks_help(words: &[String]) -> bool {
     }
 }
 
-fn main(rt: HostRuntime) -> anyhow::Result<()> {
+fn main(rt: HostRuntime) -> io::Result<ExitCode> {
     let words = words(&rt, rt.alloc())?;
     if asks_help(&words) {
         eprintln!(rt; "{USAGE}")?;
-        return Ok(());
+        return Ok(ExitCode::SUCCESS);
     }
     match answer(rt.alloc(), &words) {
         Ok(table) => {
             print!(rt; "{table}")?;
-            Ok(())
+            Ok(ExitCode::SUCCESS)
         }
         Err(fault) => {
             match fault.number() {
                 Some(number) => eprintln!(rt; "share: refused with {number}: {fault}")?,
                 None => eprintln!(rt; "share: {fault}")?,
             }
-            Err(anyhow!("refused"))
+            Ok(ExitCode::FAILURE)
         }
     }
 }
