@@ -1,5 +1,5 @@
 -- Quotients and remainders of a sum.
-use Rattle.std.proofs.Common.{◌≡◌, ℕ, ◌+◌, ◌-◌, ◌*◌, ◌/◌, ◌%◌, ◌<◌, ◌≤◌, ◌⊎◌, sym, refl, ap, ◌∙◌, inl, inr, ⊎_elim, mod-lt, add-mul, one-mul, div-add-mod', mul-add, arith}
+use Rattle.std.proofs.Common.{◌≡◌, ℕ, ◌+◌, ◌-◌, ◌*◌, ◌/◌, ◌%◌, ◌<◌, ◌≤◌, ◌⊎◌, ap, ◌∙◌, inl, inr, ⊎_elim, mod-lt, add-mul, one-mul, div-add-mod', arith}
 use lib.Arith.{digits_div}
 use Rattle.std.proofs.lemmas.Bool.{cases_lt}
 

@@ -1,5 +1,5 @@
 -- The packed sheet, and the turns of the loops over it.
-use Rattle.std.proofs.Common.{◌≡◌, ℕ, zero, suc, ◌+◌, ◌-◌, ◌*◌, ◌/◌, ◌%◌, ◌^◌, ◌<◌, ◌≤◌, max, Bool, true, false, cond, ◌&&◌, eqb, ltb, leb, ◌⊎◌, List, [], ◌∷◌, ◌++◌, map, length, get_or, take, drop, set, None, sum_by, sum, count_by, sym, refl, ap, ◌∙◌, inl, inr, ⊎_elim, mod-lt, mul_comm, add-mul, lt_of_mul-lt-mul_right, mul-add, add-one, arith}
+use Rattle.std.proofs.Common.{◌≡◌, ℕ, zero, suc, ◌+◌, ◌-◌, ◌*◌, ◌/◌, ◌%◌, ◌^◌, ◌<◌, ◌≤◌, max, Bool, true, false, cond, ◌&&◌, eqb, ltb, leb, ◌⊎◌, List, [], ◌∷◌, ◌++◌, map, length, get_or, take, drop, set, None, sum_by, sum, sym, refl, ap, ◌∙◌, inl, inr, ⊎_elim, mod-lt, mul_comm, add-mul, lt_of_mul-lt-mul_right, mul-add, add-one, arith}
 use native.Mathlib.Nat.{two-pow-succ}
 use lib.Bits.{bit_and}
 use Rattle.std.proofs.lemmas.List.Sums.{sum_by-cons, sum_by_more, sum_by-take-le, get_or-le-sum_by}

@@ -8,7 +8,6 @@ use Rattle.records.specs.declared.pool.Pool.{Pool}
 use Rattle.records.specs.declared.pool.Pool.TheVariants.{Composite, NonSlice, Slice, Tier2}
 use Rattle.book.specs.Rates.{Meaning}
 use Rattle.book.specs.Sides.{cost as book-cost}
-use Rattle.book.specs.declared.refusal.Refusal as book
 use Rattle.book.specs.declared.stages.Intake.{Intake}
 use Rattle.book.specs.declared.stages.OpenBook.{OpenBook}
 use Rattle.book.specs.declared.stages.ClosedBook.{ClosedBook}

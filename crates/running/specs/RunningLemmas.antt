@@ -1,6 +1,6 @@
 -- The shares by running sums are fair.
-use Rattle.std.specs.Prelude.{◌≡◌, ℕ, zero, suc, ◌+◌, ◌-◌, ◌*◌, ◌/◌, ◌%◌, ◌<◌, ◌≤◌, ◌⊎◌, List, [], ◌∷◌, ◌++◌, length, take, drop, sum, slice_index, slice_set, refl}
-use Rattle.std.proofs.Common.{sym, ap, ◌∙◌, inl, inr, ⊎_elim, mul-add, mul-div_cancel, zero-add, mul-zero, add_assoc, arith}
+use Rattle.std.specs.Prelude.{◌≡◌, ℕ, zero, suc, ◌+◌, ◌-◌, ◌*◌, ◌/◌, ◌<◌, ◌≤◌, List, [], ◌∷◌, ◌++◌, length, take, drop, sum, slice_index, slice_set, refl}
+use Rattle.std.proofs.Common.{ap, inl, inr, ⊎_elim, mul-add, mul-div_cancel, zero-add, mul-zero, arith}
 use Rattle.std.proofs.lemmas.List.Sums.{sum_by-cons, sum_by_more, sum_by-take-le}
 use Rattle.std.proofs.lemmas.List.{take_more_set, at_drop_more, append_assoc}
 use Rattle.divider.specs.Questions.{Passes}

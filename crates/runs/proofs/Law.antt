@@ -12,7 +12,7 @@ use Rattle.book.specs.declared.stages.OpenBook.{OpenBook}
 use Rattle.book.specs.declared.stages.ClosedBook.{ClosedBook}
 use Rattle.book.specs.Sides.{cost}
 use Rattle.book.specs.Rates.{Meaning, Founds}
-use Rattle.runs.specs.History.{Event, closing, refusal, grants, lines_of, bill_of, cost_by, credits, Billed}
+use Rattle.runs.specs.History.{Event, closing, refusal, grants, lines_of, bill_of, cost_by, Billed}
 use Rattle.runs.specs.Runs.{AlwaysSound, Stage, open_book, shut_book, World, at, Step, grant, lift, land, return, post, strike, stay, close, bill, Run, start, next, held, on_the_way, Rated, Paid, Closing, Reconciling, LawfulMeaning, Entered, StaysReconciled, BooksStaySound}
 use Rattle.runs.proofs.Founding.{Starts, found_starts}
 use Rattle.runs.proofs.Marks.{MarksKept, same_marks, grant_keeps, grant_unspoiled, lift_keeps, lift_unspoiled, land_keeps, land_unspoiled, return_keeps, return_unspoiled}

@@ -1,5 +1,5 @@
 -- From the words to the answer.
-use Rattle.std.proofs.Common.{◌≡◌, ℕ, ◌-◌, ◌<◌, false, eqb, List, [], ◌∷◌, map, length, get_or, take, drop, Ok, Err, string_bytes, decimal, Result, String, sym, refl, ap, ◌∙◌, arith}
+use Rattle.std.proofs.Common.{◌≡◌, ℕ, ◌-◌, ◌<◌, false, eqb, List, [], ◌∷◌, map, length, get_or, take, drop, Ok, Err, string_bytes, decimal, Result, String, sym, ap, ◌∙◌, arith}
 use Rattle.std.specs.declared.alloc.Global.{Global}
 use Rattle.std.proofs.lemmas.List.{drop_more, drop-map, get_or-map, length-map, nil_from_length, take_rest}
 use Rattle.std.proofs.lemmas.Bool.{eqb-false}
@@ -8,7 +8,7 @@ use Rattle.sharing.specs.declared.fault.Fault.TheVariants.{UnknownRule, NoTotal,
 use Rattle.sharing.specs.declared.rule.Rule.{Rule}
 use Rattle.sharing.specs.declared.rule.Rule.TheVariants.{Largest, Running}
 use Rattle.sharing.specs.Table.{by_rule, table, Answers}
-use Rattle.sharing.specs.Request.{name, Figures, Asks, Answered}
+use Rattle.sharing.specs.Request.{name, Figures, Answered}
 
 name_some : (rule : Rule) → 0 < length (name rule)
 name_some Largest = omega arith

@@ -1,8 +1,8 @@
-use Rattle.std.proofs.Common.{◌≡◌, ◌+◌, ◌-◌, ◌*◌, ◌/◌, ◌≤◌, map, length, get_or, sum_by, sym, ap, ◌∙◌, div-add-mod', arith, take_all}
+use Rattle.std.proofs.Common.{◌-◌, ◌*◌, ◌≤◌, map, length, get_or, sum_by, sym, ap, ◌∙◌, div-add-mod', arith, take_all}
 use Rattle.divider.specs.Shares.{whole}
 use Rattle.divider.proofs.Parts.{product_le, rest_is}
 use Rattle.largest.specs.Packing.{packed}
-use Rattle.largest.proofs.Packed.{divisor, packed_fits, left_more, written_more}
+use Rattle.largest.proofs.Packed.{packed_fits, left_more, written_more}
 use Rattle.largest.proofs.split.Goals as goal
 
 pub overflow_mul-product : goal.overflow_mul-product

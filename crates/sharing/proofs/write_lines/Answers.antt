@@ -1,4 +1,4 @@
-use Rattle.std.proofs.Common.{◌≡◌, ◌+◌, ◌*◌, length, get_or, string_bytes, sym, refl, ap, ◌∙◌, div-add-mod', arith}
+use Rattle.std.proofs.Common.{◌≡◌, ◌+◌, ◌*◌, length, get_or, string_bytes, ap, ◌∙◌, div-add-mod', arith}
 use Rattle.std.proofs.lemmas.List.{take_all}
 use Rattle.divider.specs.Shares.{whole, rest}
 use Rattle.divider.proofs.Parts.{product_le, rest_is}

@@ -1,8 +1,6 @@
-use Rattle.std.proofs.Common.{◌≡◌, ◌+◌, ◌*◌, map, length, ap, ◌∙◌, arith}
-use Rattle.std.proofs.lemmas.Nat.{mul-le}
+use Rattle.std.proofs.Common.{◌+◌, ◌*◌, map, length, ap, ◌∙◌, arith}
 use Rattle.divider.proofs.Asking.{passed, passed_length}
 use Rattle.divider.proofs.Parts.{total_le}
-use Rattle.largest.specs.Largest.{left_over}
 use Rattle.largest.specs.Packing.{reached, raised, share_of}
 use Rattle.largest.proofs.Packed.{ready, divisor, none_reaches, all_reach, shares_by, room}
 use Rattle.largest.proofs.LargestRemainderDivider.divide.Goals as goal

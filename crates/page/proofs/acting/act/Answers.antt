@@ -1,7 +1,7 @@
 use Rattle.std.proofs.Common.{Ok, Err, sym, refl, ap, ◌∙◌, subst}
 use Rattle.std.proofs.lemmas.Result.{err_from_is_err_and}
 use Rattle.register.specs.Register.{room, records}
-use Rattle.lines.specs.Lines.{contents, customer, cost, grant, transfer}
+use Rattle.lines.specs.Lines.{contents, cost, grant, transfer}
 use Rattle.page.specs.declared.fault.Cause.TheVariants.{Page, Line}
 use Rattle.page.specs.declared.fault.Refusal.TheVariants.{HeaderPlace, LateCustomer}
 use Rattle.book.specs.Lines.{Posts}

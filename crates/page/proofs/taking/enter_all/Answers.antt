@@ -2,7 +2,7 @@ use Rattle.std.proofs.Common.{true, false, [], map, length, Ok, Err, sym, ap, â—
 use Rattle.register.specs.Register.{room, records}
 use Rattle.rows.specs.Rows.{parts_after}
 use Rattle.lines.specs.Lines.{line_of}
-use Rattle.page.specs.Pages.{LineEnters, Takes, no_more, taken}
+use Rattle.page.specs.Pages.{LineEnters, Takes, no_more}
 use Rattle.page.proofs.Playing.{next_line, next_reading, take_enters, take_stops, take_refuses}
 use Rattle.page.proofs.taking.enter_all.Goals as goal
 

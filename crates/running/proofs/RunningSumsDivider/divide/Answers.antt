@@ -1,7 +1,6 @@
-use Rattle.std.proofs.Common.{◌≡◌, ◌+◌, ◌*◌, ◌<◌, ◌≤◌, [], length, get_or, drop, sum, refl, ◌∙◌, arith, take_all}
+use Rattle.std.proofs.Common.{◌≡◌, ◌+◌, ◌<◌, ◌≤◌, [], length, get_or, sum, refl, ◌∙◌, arith, take_all}
 use Rattle.std.proofs.lemmas.List.{at_drop_all, append-nil}
 use Rattle.std.proofs.lemmas.Nat.{mul-le}
-use Rattle.divider.specs.Questions.{limit}
 use Rattle.divider.proofs.Asking.{passed, passed_length}
 use Rattle.running.specs.Running.{running_from}
 use Rattle.running.specs.RunningLemmas.{running_more, front_sum, step_grows}

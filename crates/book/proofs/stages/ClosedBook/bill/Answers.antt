@@ -2,7 +2,6 @@ use Rattle.std.proofs.Common.{true, map, length, Ok, Err, sym, refl, ◌∙◌, 
 use Rattle.std.proofs.lemmas.List.{length-map}
 use Rattle.register.specs.Register.{records}
 use Rattle.records.specs.Figures.{pool_weight}
-use Rattle.records.specs.Pools.{order}
 use Rattle.book.specs.declared.refusal.Refusal.TheVariants.{Spoiled, NoWeight}
 use Rattle.book.specs.Sides.{cost}
 use Rattle.book.proofs.Bills.{bills_at, bill_free, bill_weightless, bill_spoiled, bill_done, holds_shares, holds_zero, no_sign, part_within}
