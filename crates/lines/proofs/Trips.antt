@@ -2,7 +2,7 @@
 use Rattle.std.proofs.Common.{◌≡◌, ℕ, zero, suc, ◌+◌, ◌-◌, ◌^◌, ◌<◌, ◌≤◌, true, false, not, ◌&&◌, eqb, ltb, leb, ◌⊎◌, List, [], ◌∷◌, ◌++◌, length, get_or, take, drop, is_some, is_ok, Some, None, Ok, decimal, Option, Result, sym, refl, ap, ◌∙◌, subst, inl, inr, ⊎_elim, arith}
 use lib.Utf8.{encode}
 use Rattle.std.specs.Str.Parse.{digits_value}
-use Rattle.std.specs.List.{AllByRecursion as All}
+use Rattle.std.specs.List.{AllByRecursion}
 use Rattle.std.specs.Str.{all_ascii_digits}
 use Rattle.std.proofs.lemmas.Fmt.{decimal-digits_value}
 use Rattle.std.proofs.ByRecursion.{All-from_get_or}
@@ -216,7 +216,7 @@ byte_plain Transfer e = omega arith
 
 -- no comma stands in a field that passes
 abbrev Plain : List ℕ → Type 0
-Plain = All (λ b. b ≡ 44 → ⊥)
+Plain = AllByRecursion (λ b. b ≡ 44 → ⊥)
 
 name_plain : (f : List ℕ) → name_bytes f ≡ true → Plain f
 name_plain [] e = tt
@@ -242,7 +242,7 @@ passed_plain Pool l k f third e = pool_plain f (asks_passes Pool l k f third e).
 passed_plain OtherPool l k f third e =
     pool_plain f (and_parts (a_pool f) (not (eqb (get_or f 0 0) (get_or third 0 0))) (asks_passes OtherPool l k f third e).1).0
 
-all_plain : (l : Letter) (fs : List (List ℕ)) → letter_of (field fs 1) ≡ Some l → length fs ≡ count l → ((k : ℕ) → 2 ≤ k → k ≤ count l → asked l fs k ≡ None) → All Plain fs
+all_plain : (l : Letter) (fs : List (List ℕ)) → letter_of (field fs 1) ≡ Some l → length fs ≡ count l → ((k : ℕ) → 2 ≤ k → k ≤ count l → asked l fs k ≡ None) → AllByRecursion Plain fs
 all_plain l fs known n clean =
     All-from_get_or Plain fs [] (λ i h.
     ⊎_elim

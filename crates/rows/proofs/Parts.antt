@@ -1,6 +1,6 @@
 -- Bytes parted from left to right.
 use Rattle.std.proofs.Common.{◌≡◌, ℕ, ◌+◌, ◌<◌, ◌≤◌, true, false, List, [], ◌∷◌, ◌++◌, length, get_or, take, drop, is_some, Some, None, Option, sym, refl, ap, ◌∙◌, ⊎_elim, arith, Bor}
-use Rattle.std.specs.List.{AllByRecursion as All}
+use Rattle.std.specs.List.{AllByRecursion}
 use Rattle.std.proofs.lemmas.List.{append-nil, append_assoc, take_all, drop_all, take_more, drop_more}
 use Rattle.std.proofs.lemmas.Bool.{cases_eq, eq-eqb, ne_eqb}
 use Rattle.rows.specs.Rows.{before, parted, parts_after, joined}
@@ -72,13 +72,13 @@ module _ (s : ℕ) where
   before_nothing : (bs : List ℕ) → before [] (parted s bs) ≡ parted s bs
   before_nothing bs = split_none bs
 
-  parted_after : (f bs : List ℕ) → All (λ b. b ≡ s → ⊥) f → parted s (f ++ bs) ≡ before f (parted s bs)
+  parted_after : (f bs : List ℕ) → AllByRecursion (λ b. b ≡ s → ⊥) f → parted s (f ++ bs) ≡ before f (parted s bs)
   parted_after [] bs plain = sym (before_nothing bs)
   parted_after (b ∷ f) bs plain =
       parted_past b (f ++ bs) plain.0 ∙ ap (before (b ∷ [])) (parted_after f bs plain.1) ∙ before_onto b f (parted s bs)
 
 -- fields joined by commas and parted at them
-pub parted_joined : (f : List ℕ) (fs : List (List ℕ)) → All (All (λ b. b ≡ 44 → ⊥)) (f ∷ fs) → parted 44 (joined (f ∷ fs)) ≡ f ∷ fs
+pub parted_joined : (f : List ℕ) (fs : List (List ℕ)) → AllByRecursion (AllByRecursion (λ b. b ≡ 44 → ⊥)) (f ∷ fs) → parted 44 (joined (f ∷ fs)) ≡ f ∷ fs
 parted_joined f [] plain = parted_after 44 f [] plain.0 ∙ ap (λ xs. xs ∷ []) (append-nil f)
 parted_joined f (g ∷ fs) plain =
     parted_after 44 f (44 ∷ joined (g ∷ fs)) plain.0 ∙ ap (λ xs. xs ∷ parted 44 (joined (g ∷ fs))) (append-nil f) ∙ ap (λ ps. f ∷ ps) (parted_joined g fs plain.1)

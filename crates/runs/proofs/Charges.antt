@@ -1,6 +1,6 @@
 -- Bills: what they charge, what they leave, and that none answers 24.
 use Rattle.std.proofs.Common.{◌≡◌, ℕ, zero, suc, ◌+◌, ◌*◌, ◌<◌, ◌≤◌, true, false, cond, leb, List, [], ◌∷◌, map, length, get_or, replicate, ℤ, pos, negsuc, ◌-ℤ◌, ◌*ℤ◌, Some, None, Ok, Err, sum_by, sum, Option, Result, unwrap_or, sym, refl, ap, ◌∙◌, subst, inl, inr, ⊎_elim, mul-le-mul_right, suc-mul, mul-le-mul, arith}
-use Rattle.std.specs.List.{AllByRecursion as All}
+use Rattle.std.specs.List.{AllByRecursion}
 use Rattle.std.proofs.lemmas.List.{length-map, length-replicate, get_or-map, get_or-replicate}
 use Rattle.std.proofs.ByRecursion.{All-weaker, sum_by_le}
 use Rattle.std.proofs.lemmas.List.Sums.{sum_by-cons, sum-map}
@@ -31,7 +31,7 @@ use Rattle.runs.proofs.Pools.{same_pool}
 -- What every closed book's customers keep: these bounds, within which no bill is too large.
 pub record Bounded (cs : List Customer) : Type 0 where
   pub count : length cs ≤ 512
-  pub elected : All (λ x. x.elected ≤ 30000) cs
+  pub elected : AllByRecursion (λ x. x.elected ≤ 30000) cs
   pub rhwms : sum_by (λ x. x.rhwm) cs ≤ 20000000
 
 sum_by_below : {X : Type 0} (f g : X → ℕ) → ((x : X) → f x ≤ g x) → (xs : List X) → sum_by f xs ≤ sum_by g xs

@@ -1,7 +1,7 @@
 -- What a founded book's customers keep before the first call of a run.
 use Rattle.std.proofs.Common.{◌≡◌, ℕ, ◌*◌, ◌<◌, ◌≤◌, true, cond, List, [], ◌∷◌, map, length, Some, None, Ok, Err, sum_by, sym, refl, ap, ◌∙◌, mul-le-mul, arith}
 use lib.ListN.{length-map}
-use Rattle.std.specs.List.{AllByRecursion as All}
+use Rattle.std.specs.List.{AllByRecursion}
 use Rattle.std.proofs.ByRecursion.{sum_by_le}
 use Rattle.std.proofs.lemmas.Bool.{and_from, le-leb}
 use Rattle.std.proofs.lemmas.Bool.Decides.{nat_tests}
@@ -41,7 +41,7 @@ module _ (f : Customer → ℕ) (most : ℕ) (unwritten : (c : Customer) → f (
   abbrev Below : Customer → Type 0
   Below c = f c ≤ most
 
-  same_below : (cs cs' : List Customer) → map bare cs' ≡ map bare cs → All Below cs → All Below cs'
+  same_below : (cs cs' : List Customer) → map bare cs' ≡ map bare cs → AllByRecursion Below cs → AllByRecursion Below cs'
   same_below cs [] same h = tt
   same_below [] (d ∷ ds) same h = absurd (let long : length (map bare (d ∷ ds)) ≡ 0 = ap length same in omega arith)
   same_below (c ∷ cs) (d ∷ ds) same h =
@@ -50,7 +50,7 @@ module _ (f : Customer → ℕ) (most : ℕ) (unwritten : (c : Customer) → f (
       let e : f d ≡ f c = sym (unwritten d) ∙ ap f here ∙ unwritten c in
       (omega (arith, h.0), same_below cs ds there h.1)
 
-  entered_below : {cs : List Customer} → Entered cs → All Below cs
+  entered_below : {cs : List Customer} → Entered cs → AllByRecursion Below cs
   entered_below none = tt
   entered_below (used {cs} {cs'} e same) = same_below cs cs' same (entered_below e)
   entered_below (one_more {cs} {cs'} places x le e s) =
@@ -58,7 +58,7 @@ module _ (f : Customer → ℕ) (most : ℕ) (unwritten : (c : Customer) → f (
       let here : Below (entered x) = within x (first_yes _ _ _ asks).0 in
       rw s.after (all_shelf Below (added key (entered x) cs) (all_added key Below (entered x) cs here (all_finite Below cs (entered_below e))))
 
-entered_small : {cs : List Customer} → Entered cs → All Small cs
+entered_small : {cs : List Customer} → Entered cs → AllByRecursion Small cs
 entered_small e = entered_below (λ c. c.elected) 30000 (λ c. refl) (λ x all. grind (arith, nat_tests)) e
 
 weights_small : {cs : List Customer} → Entered cs → sum_by founding_weight cs ≤ 1280000000

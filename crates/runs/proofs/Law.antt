@@ -1,6 +1,6 @@
 -- Every run of a founded book is sound: by induction over its calls.
 use Rattle.std.proofs.Common.{◌≡◌, ℕ, ◌+◌, ◌<◌, ◌≤◌, Bool, cond, List, [], ◌∷◌, ℤ, is_ok, Some, None, Ok, refl, ap, ◌∙◌, inl, inr, arith}
-use Rattle.std.specs.List.{AllByRecursion as All}
+use Rattle.std.specs.List.{AllByRecursion}
 use Rattle.std.proofs.lemmas.Bool.{cond_both}
 use Rattle.records.specs.declared.customer.Customer.{Customer}
 use Rattle.records.specs.declared.cost_line.CostLine.{CostLine}
@@ -120,7 +120,7 @@ module _ {D : Type 0} (m : D → Meaning) (fair : (d : D) → LawfulMeaning (m d
           bill_unspoiled m c cs bounded h.lines.within letter r k,
         )
 
-    run : {b : OpenBook D} {cs : List Customer} {ch : List ℤ} → OpenKept [] b cs [] → (es : List Event) {w : World D} → Run m (at (open_book b) cs [] ch) es w → Kept es w × All (λ e. refusal e ≡ Some Spoiled → ⊥) es
+    run : {b : OpenBook D} {cs : List Customer} {ch : List ℤ} → OpenKept [] b cs [] → (es : List Event) {w : World D} → Run m (at (open_book b) cs [] ch) es w → Kept es w × AllByRecursion (λ e. refusal e ≡ Some Spoiled → ⊥) es
     run h es start = (h, tt)
     run h es (next {es = before} r s) =
         let kept = run h before r in

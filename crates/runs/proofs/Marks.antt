@@ -1,7 +1,7 @@
 -- What an open book's customers keep along a run.
 use Rattle.std.proofs.Common.{◌≡◌, ℕ, ◌+◌, ◌-◌, ◌<◌, ◌≤◌, true, ◌||◌, eqb, leb, List, [], ◌∷◌, length, Some, None, Ok, Err, sum_by, Option, Result, unwrap_or, sym, refl, ap, ◌∙◌, subst, arith}
 use Rattle.std.specs.List as finite
-use Rattle.std.specs.List.{AllByRecursion as All}
+use Rattle.std.specs.List.{AllByRecursion}
 use Rattle.std.proofs.lemmas.List.Sums.{sum_by-cons}
 use Rattle.std.proofs.lemmas.Bool.{cond_both, le-leb}
 use Rattle.std.proofs.lemmas.Bool.Decides.{nat_tests}
@@ -30,14 +30,14 @@ pub record MarksKept (total : ℕ) (es : List Event) (granted : ℕ) (cs : List 
   pub counted : granted ≡ grants es
   pub limited : grants es ≤ 50000
   pub few : length cs ≤ 512
-  pub small : All (λ c. c.elected ≤ 30000) cs
+  pub small : AllByRecursion (λ c. c.elected ≤ 30000) cs
 
 -- The two forms of a fact that holds of every element.
-pub all_shelf : {X : Type 0} (P : X → Type 0) (xs : List X) → finite.AllByRecursion P xs → All P xs
+pub all_shelf : {X : Type 0} (P : X → Type 0) (xs : List X) → finite.AllByRecursion P xs → AllByRecursion P xs
 all_shelf P [] h = tt
 all_shelf P (x ∷ xs) h = (h.0, all_shelf P xs h.1)
 
-pub all_finite : {X : Type 0} (P : X → Type 0) (xs : List X) → All P xs → finite.AllByRecursion P xs
+pub all_finite : {X : Type 0} (P : X → Type 0) (xs : List X) → AllByRecursion P xs → finite.AllByRecursion P xs
 all_finite P [] h = tt
 all_finite P (x ∷ xs) h = (h.0, all_finite P xs h.1)
 
@@ -45,7 +45,7 @@ all_finite P (x ∷ xs) h = (h.0, all_finite P xs h.1)
 record Moves (less more : ℕ) (cs cs' : List Customer) : Type 0 where
   sums : held cs' + on_the_way cs' + less ≡ held cs + on_the_way cs + more
   count : length cs' ≡ length cs
-  small : All Small cs → All Small cs'
+  small : AllByRecursion Small cs → AllByRecursion Small cs'
 
 none_moves : {cs cs' : List Customer} → cs' ≡ cs → Moves 0 0 cs cs'
 none_moves {cs} e = subst (λ (t : List Customer). Moves 0 0 cs t) (sym e) (record { sums = refl; count = refl; small = λ h. h })

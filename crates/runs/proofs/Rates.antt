@@ -1,7 +1,7 @@
 -- Closing: what a refused close leaves, and what an accepted one writes.
 use Rattle.std.proofs.Common.{◌≡◌, ℕ, ◌*◌, ◌<◌, ◌≤◌, true, cond, List, ◌∷◌, map, length, get_or, Some, None, Ok, Err, sum_by, refl, ap, ◌∙◌, mul_comm, mul-le-mul, arith}
 use lib.ListN.{length-map}
-use Rattle.std.specs.List.{AllByRecursion as All}
+use Rattle.std.specs.List.{AllByRecursion}
 use Rattle.std.proofs.lemmas.List.{get_or-map}
 use Rattle.std.proofs.lemmas.List.Sums.{sum-map}
 use Rattle.std.proofs.lemmas.Bool.{and_from, le-leb}
@@ -31,7 +31,7 @@ pub record Shuts {D : Type 0} (b : OpenBook D) (cs : List Customer) (c : ClosedB
   pub holds : held cs' ≡ held cs
   pub carries : on_the_way cs' ≡ on_the_way cs
   pub count : length cs' ≡ length cs
-  pub small : All Small cs → All Small cs'
+  pub small : AllByRecursion Small cs → AllByRecursion Small cs'
 
 module _ {D : Type 0} (m : D → Meaning) where
   module _ {b b' : OpenBook D} {cs cs' : List Customer} {ws ss ws' ss' : List ℕ} {e : Refusal} (s : Closes m b cs ws ss (Err (b', e)) cs' ws' ss') where

@@ -1,6 +1,6 @@
 -- Shares that are written into the records, each into the one at its place.
 use Rattle.std.proofs.Common.{◌≡◌, ℕ, zero, suc, ◌*◌, ◌<◌, true, List, [], ◌∷◌, map, length, get_or, sum_by, refl, arith}
-use Rattle.std.specs.List.{AllByRecursion as All}
+use Rattle.std.specs.List.{AllByRecursion}
 use Rattle.std.proofs.lemmas.List.Sums.{sum_by-cons, sum-map}
 use Rattle.std.proofs.lemmas.Bool.{and_parts, leb-true}
 use Rattle.divider.specs.Questions.{limit, Passes}
@@ -13,7 +13,7 @@ sum_by_zero [] = refl
 sum_by_zero {X} (x ∷ xs) = omega (arith, sum_by-cons (λ (y : X). 0) x xs, sum_by_zero xs)
 
 module _ (w : Customer → ℕ → Customer) where
-  pub all_written : (P : Customer → Type 0) → ((c : Customer) (s : ℕ) → P c → P (w c s)) → (shares : List ℕ) (cs : List Customer) → All P cs → All P (with_shares w shares cs)
+  pub all_written : (P : Customer → Type 0) → ((c : Customer) (s : ℕ) → P c → P (w c s)) → (shares : List ℕ) (cs : List Customer) → AllByRecursion P cs → AllByRecursion P (with_shares w shares cs)
   all_written P each shares [] h = tt
   all_written P each [] (c ∷ cs) h = h
   all_written P each (s ∷ shares) (c ∷ cs) h = (each c s h.0, all_written P each shares cs h.1)

@@ -1,6 +1,6 @@
 -- Runs of a book, and what holds after every one of them.
 use Rattle.std.specs.Prelude.{◌≡◌, ℕ, ◌+◌, ◌*◌, ◌<◌, ◌≤◌, List, [], ◌∷◌, map, length, get_or, ℤ, pos, ◌+ℤ◌, ◌-ℤ◌, ◌*ℤ◌, Some, Ok, Err, fold, sum_by, Result, ◌≢◌, slice_index_or}
-use Rattle.std.specs.List.{AllByRecursion as All}
+use Rattle.std.specs.List.{AllByRecursion}
 use Rattle.divider.specs.Questions.{Passes}
 use Rattle.divider.specs.Shares.{Fair}
 use Rattle.records.specs.declared.customer.Customer.{Customer}
@@ -116,7 +116,7 @@ Closing capability es (shut_book c) w = Settled capability es w.customers w.char
 pub record Sound {D : Type 0} (total capability : ℕ) (es : List Event) (w : World D) : Type 0 where
   pub balanced : held w.customers + on_the_way w.customers ≡ total + grants es
   pub settled : Closing capability es w.stage w
-  pub unspoiled : All (λ e. refusal e ≢ Some Spoiled) es
+  pub unspoiled : AllByRecursion (λ e. refusal e ≢ Some Spoiled) es
 
 -- Every run of this book, over these customers and an empty cost register, is sound, whatever the charges sheet.
 abbrev pub StaysSound : {D : Type 0} → (D → Meaning) → ℕ → ℕ → OpenBook D → List Customer → Type 0

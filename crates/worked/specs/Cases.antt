@@ -1,6 +1,6 @@
 -- The worked cases, as one table.
 use Rattle.std.specs.Prelude.{◌≡◌, ℕ, ◌-◌, List, [], ◌∷◌, map, length, ℤ, pos, neg_ℤ, Some, None, Ok, Err, Option, Result}
-use Rattle.std.specs.List.{AllByRecursion as All}
+use Rattle.std.specs.List.{AllByRecursion}
 use Rattle.divider.specs.declared.refusal.Refusal as divider
 use Rattle.divider.specs.declared.refusal.Refusal.TheVariants.{NoWeight, TooLarge}
 use Rattle.divider.specs.Questions.{asked}
@@ -75,5 +75,5 @@ Holds (landing giver load receiver refusal marks) =
     × (map (λ c. c.mark) (landed (lifted giver load) (record { giver = giver }) receiver refusal) ≡ marks)
 Holds (charge cost weights charges) = charges_of by_remainders cost weights ≡ charges
 
-abbrev pub All_hold : Type 0
-All_hold = All Holds cases
+abbrev pub AllHold : Type 0
+AllHold = AllByRecursion Holds cases

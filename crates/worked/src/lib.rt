@@ -5,14 +5,14 @@
 //! code on the divisions.
 #![tactic(auto)]
 
-ghost use Rattle.worked.specs.Cases.{All_hold};
+ghost use Rattle.worked.specs.Cases.{AllHold};
 
 use divider::{Divider, Refusal};
 use sharing::Rule;
 
 /// Every worked division, transfer and charge comes out as the table says.
 pub fn cases_hold()
-    ensures { All_hold }
+    ensures { AllHold }
 {}
 
 #[cfg(test)]
