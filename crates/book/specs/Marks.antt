@@ -1,5 +1,5 @@
 -- Grants of mark, and transfers: lift, land, return.
-use Rattle.std.specs.Prelude.{◌≡◌, ℕ, ◌+◌, ◌-◌, Bool, cond, not, ◌||◌, List, [], ◌∷◌, is_ok, Some, None, Option, Result, ◌==◌, nat_le, nat_lt}
+use Rattle.std.specs.Prelude.{◌≡◌, ℕ, ◌+◌, ◌-◌, Bool, false, cond, not, ◌||◌, List, [], ◌∷◌, is_ok, Some, None, Option, Result, ◌==◌, nat_le, nat_lt}
 use Rattle.register.specs.Records.{replaced}
 use Rattle.records.specs.declared.customer.Customer.{Customer}
 use Rattle.book.specs.declared.parcel.Parcel.{Parcel}
@@ -49,7 +49,7 @@ lift_asks customers n load =
 
 -- A lift takes a load off the giver's mark, notes it as on the way, and answers a parcel.
 pub record Lifts (customers : List Customer) (n load : ℕ) (r : Result Parcel Refusal) (customers' : List Customer) : Type 0 where
-  pub answer : r ≡ told (record { giver = n }) (lift_asks customers n load)
+  pub answer : r ≡ told (record { giver = n; spent = false }) (lift_asks customers n load)
   pub after : customers' ≡ cond (is_ok r) (remarked customers (customer customers n) ((customer customers n).mark - load) load) customers
 
 -- The load on the way from a parcel's giver.

@@ -91,7 +91,10 @@ impl<D> OpenBook<D> {
             transit,
             ..customer
         });
-        Ok(Parcel { giver: number })
+        Ok(Parcel {
+            giver: number,
+            spent: false,
+        })
     }
 }
 

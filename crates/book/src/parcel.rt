@@ -1,26 +1,28 @@
 //! Load that was lifted off a mark.
-ghost use Rattle.std.specs.Prelude.{◌≡◌};
+ghost use Rattle.std.specs.Prelude.{◌≡◌, true};
 
-/// The token of a lifted load: it has to be landed or given back, so no
-/// program may let one go. The amount stays in the giver's record.
+/// The token of a lifted load: it has to be landed or given back, which spends
+/// it, and no program may let go of one that is not spent. The amount stays in
+/// the giver's record.
 pub struct Parcel {
     pub(crate) giver: u32,
+    pub(crate) spent: bool,
 }
 
 impl Drop for Parcel {
     fn drop(self)
-        requires { ⊥ }
+        requires { self.spent ≡ true }
     {
-        let Parcel { giver: _ } = self;
+        let Parcel { giver: _, spent: _ } = self;
     }
 }
 
 impl Parcel {
-    // The giver's number; the parcel ends.
-    pub(crate) fn open(self) -> u32
+    // The giver's number; the parcel is spent, and ends.
+    pub(crate) fn open(mut self) -> u32
         ensures { result ≡ self.giver }
     {
-        let Parcel { giver } = self;
-        giver
+        self.spent = true;
+        self.giver
     }
 }

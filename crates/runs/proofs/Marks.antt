@@ -1,5 +1,5 @@
 -- What an open book's customers keep along a run.
-use Rattle.std.proofs.Common.{◌≡◌, ℕ, ◌+◌, ◌-◌, ◌<◌, ◌≤◌, true, ◌||◌, eqb, leb, List, [], ◌∷◌, length, Some, None, Ok, Err, sum_by, Option, Result, unwrap_or, sym, refl, ap, ◌∙◌, subst, arith}
+use Rattle.std.proofs.Common.{◌≡◌, ℕ, ◌+◌, ◌-◌, ◌<◌, ◌≤◌, true, false, ◌||◌, eqb, leb, List, [], ◌∷◌, length, Some, None, Ok, Err, sum_by, Option, Result, unwrap_or, sym, refl, ap, ◌∙◌, subst, arith}
 use Rattle.std.specs.List as finite
 use Rattle.std.specs.List.{AllByRecursion}
 use Rattle.std.proofs.lemmas.List.Sums.{sum_by-cons}
@@ -157,7 +157,7 @@ module _ {D : Type 0} {b b' : OpenBook D} {cs cs' : List Customer} {n load total
 module _ {cs cs' : List Customer} {n load : ℕ} where
   pub lift_keeps : {total granted : ℕ} {es : List Event} {r : Result Parcel Refusal} → Lifts cs n load r cs' → MarksKept total es granted cs → MarksKept total (lifting n load r ∷ es) granted cs'
   lift_keeps {r = Ok p} s k =
-      let asks : lift_asks cs n load ≡ None = (told_ok p (record { giver = n }) (lift_asks cs n load) s.answer).0 in
+      let asks : lift_asks cs n load ≡ None = (told_ok p (record { giver = n; spent = false }) (lift_asks cs n load) s.answer).0 in
       let c = customer cs n in
       let stand : stands cs n ≡ true = grind arith in
       let free : c.transit ≡ 0 = grind (arith, nat_tests) in
@@ -167,7 +167,7 @@ module _ {cs cs' : List Customer} {n load : ℕ} where
 
   pub lift_unspoiled : {r : Result Parcel Refusal} → Lifts cs n load r cs' → refusal (lifting n load r) ≡ Some Spoiled → ⊥
   lift_unspoiled {r} s bad =
-      let asks : lift_asks cs n load ≡ Some Spoiled = sym (refused_told r (record { giver = n }) (lift_asks cs n load) s.answer) ∙ bad in
+      let asks : lift_asks cs n load ≡ Some Spoiled = sym (refused_told r (record { giver = n; spent = false }) (lift_asks cs n load) s.answer) ∙ bad in
       grind arith
 
 module _ {total granted : ℕ} {es : List Event} {cs cs' : List Customer} {p : Parcel} where

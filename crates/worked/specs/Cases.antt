@@ -1,5 +1,5 @@
 -- The worked cases, as one table.
-use Rattle.std.specs.Prelude.{◌≡◌, ℕ, ◌-◌, List, [], ◌∷◌, map, length, ℤ, pos, neg_ℤ, Some, None, Ok, Err, Option, Result}
+use Rattle.std.specs.Prelude.{◌≡◌, ℕ, ◌-◌, false, List, [], ◌∷◌, map, length, ℤ, pos, neg_ℤ, Some, None, Ok, Err, Option, Result}
 use Rattle.std.specs.List.{AllByRecursion}
 use Rattle.divider.specs.declared.refusal.Refusal as divider
 use Rattle.divider.specs.declared.refusal.Refusal.TheVariants.{NoWeight, TooLarge}
@@ -71,8 +71,8 @@ Holds (division rule total weights answer) =
     answered (asked total weights (length weights)) (by_rule rule total weights) ≡ answer
 Holds (lift giver load refusal) = lift_asks book_of_three giver load ≡ refusal
 Holds (landing giver load receiver refusal marks) =
-    (land_asks (lifted giver load) (record { giver = giver }) receiver ≡ refusal)
-    × (map (λ c. c.mark) (landed (lifted giver load) (record { giver = giver }) receiver refusal) ≡ marks)
+    (land_asks (lifted giver load) (record { giver = giver; spent = false }) receiver ≡ refusal)
+    × (map (λ c. c.mark) (landed (lifted giver load) (record { giver = giver; spent = false }) receiver refusal) ≡ marks)
 Holds (charge cost weights charges) = charges_of by_remainders cost weights ≡ charges
 
 abbrev pub AllHold : Type 0
