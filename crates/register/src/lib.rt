@@ -55,7 +55,7 @@ impl<'a, R: Keyed> Register<'a, R> {
     /// A register in the memory `places`, in whose first places `standing`
     /// records stand already, or as many as it uses of them.
     ///
-    /// It leaves the memory as it was.
+    /// It leaves the memory as it was, and is in order where these records are.
     pub fn of(places: &'a mut [R], standing: usize) -> Register<'a, R>
         ensures records { records result ≡ take (min standing (usable places.old)) places.old }
         ensures memory { memory result ≡ places.old }
