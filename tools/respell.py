@@ -15,10 +15,6 @@ CALLS = {"length", "lookup", "lookup_at", "sum_by", "replaced", "replaced_at", "
 APPLIED = {"added", "replaced", "replaced_at", "without", "place_of", "place_for", "records", "set", "written", "decimal", "missing", "append", "from"}
 
 TOKEN = r"[^\s(){}\[\],;.:\"λ@«»]+"
-DEFINED = re.compile(
-    r"^\s*(?:abbrev |unfoldable )?(?:pub )?(?:record |data )?(" + TOKEN + r")\s*(?=[({]|:|\s[^=→]*→|where)(.*)$",
-    re.M,
-)
 # What Rattle itself names: goals, invariants and measures.
 GOAL = re.compile(r":\s*goal[.]")
 

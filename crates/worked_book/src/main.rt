@@ -6,12 +6,12 @@
 //! and the charges in C, N, S and T.
 #![tactic(auto)]
 
-use anyhow::anyhow;
 use book::{ClosedBook, Figures, Intake, OpenBook, Posting, Refusal};
 use largest::LargestRemainder;
 use records::{CostLine, Customer, Entry, Pool};
 use register::{Keyed, Register};
 use std::io;
+use std::process::ExitCode;
 use units::{Cents, Header, Load};
 
 const NOBODY: Customer = Customer {
@@ -235,11 +235,12 @@ fn run(rt: &HostRuntime, header: Header, granted: u64) -> io::Result<()> {
     }
 }
 
-fn main(rt: HostRuntime) -> anyhow::Result<()> {
+fn main(rt: HostRuntime) -> io::Result<ExitCode> {
     let Ok(header) = Header::new(101, 97) else {
-        return Err(anyhow!("the header is out of range"));
+        eprintln!(rt; "worked_book: the header is out of range")?;
+        return Ok(ExitCode::FAILURE);
     };
     run(&rt, header, 50_001)?;
     run(&rt, header, 9)?;
-    Ok(())
+    Ok(ExitCode::SUCCESS)
 }
