@@ -1,64 +1,47 @@
--- Shares written into records, one after the other, and what a register keeps meanwhile.
-use Rattle.std.proofs.Common.{◌≡◌, ℕ, zero, suc, ◌+◌, ◌<◌, ◌≤◌, List, [], ◌∷◌, ◌++◌, length, get_or, take, drop, set, sym, refl, ap, ◌∙◌, add-one, arith}
-use Rattle.std.proofs.lemmas.List.{get_or_default, length-take-le, take-append-drop}
-use Rattle.register.specs.Records.{replaced_at}
-use Rattle.register.proofs.Lookups.{replaced_at-set}
+-- Shares written into records, one after the other.
+use Rattle.std.proofs.Common.{◌≡◌, ℕ, zero, suc, ◌+◌, ◌<◌, List, [], ◌∷◌, length, get_or, take, set, refl, ap, add-one, arith}
 use Rattle.records.specs.declared.customer.Customer.{Customer}
-use Rattle.book.specs.declared.sharing.Share.{Share}
-use Rattle.book.specs.declared.sharing.Share.TheVariants.{Mark, Rhwm}
-use Rattle.book.specs.Customers.{key, nobody, with_shares}
-use Rattle.book.specs.Written.{write_by}
+use Rattle.book.specs.Customers.{nobody, with_shares}
+use Rattle.book.specs.Written.{Written}
 
--- a share changes no number
-pub same_number : (to : Share) (c : Customer) (s : ℕ) → key c ≡ key (write_by to c s)
-same_number Mark c s = refl
-same_number Rhwm c s = refl
+pub length_with : (w : Customer → ℕ → Customer) (ss : List ℕ) (cs : List Customer) → length (with_shares w ss cs) ≡ length cs
+length_with w ss [] = refl
+length_with w [] (c ∷ cs) = refl
+length_with w (s ∷ ss) (c ∷ cs) = ap suc (length_with w ss cs)
 
-module _ (w : Customer → ℕ → Customer) where
-  pub with_none : (cs : List Customer) → with_shares w [] cs ≡ cs
-  with_none [] = refl
-  with_none (c ∷ cs) = refl
+module _ (becomes : Customer → ℕ → Customer → Type 0) where
+  pub written_none : (cs : List Customer) → Written becomes [] cs cs
+  written_none [] = refl
+  written_none (c ∷ cs) = refl
 
-  pub length_with : (ss : List ℕ) (cs : List Customer) → length (with_shares w ss cs) ≡ length cs
-  length_with ss [] = refl
-  length_with [] (c ∷ cs) = refl
-  length_with (s ∷ ss) (c ∷ cs) = ap suc (length_with ss cs)
+  pub length_written : (ss : List ℕ) (cs new : List Customer) → Written becomes ss cs new → length new ≡ length cs
+  length_written ss [] new w = ap length w
+  length_written [] (c ∷ cs) new w = ap length w
+  length_written (s ∷ ss) (c ∷ cs) [] w = absurd w
+  length_written (s ∷ ss) (c ∷ cs) (d ∷ new) w = ap suc (length_written ss cs new w.1)
 
   -- what is still to be written stands as it was
-  pub with_ahead : (ss : List ℕ) (cs : List Customer) (i : ℕ) (d : Customer) → get_or (with_shares w (take i ss) cs) i d ≡ get_or cs i d
-  with_ahead ss [] i d = refl
-  with_ahead [] (c ∷ cs) zero d = refl
-  with_ahead [] (c ∷ cs) (suc i) d = refl
-  with_ahead (s ∷ ss) (c ∷ cs) zero d = refl
-  with_ahead (s ∷ ss) (c ∷ cs) (suc i) d = with_ahead ss cs i d
+  pub written_ahead : (ss : List ℕ) (cs new : List Customer) (i : ℕ) → Written becomes (take i ss) cs new → get_or new i nobody ≡ get_or cs i nobody
+  written_ahead ss [] new i w = rw w refl
+  written_ahead [] (c ∷ cs) new zero w = rw w refl
+  written_ahead [] (c ∷ cs) new (suc i) w = rw w refl
+  written_ahead (s ∷ ss) (c ∷ cs) new zero w = rw w refl
+  written_ahead (s ∷ ss) (c ∷ cs) [] (suc i) w = absurd w
+  written_ahead (s ∷ ss) (c ∷ cs) (d ∷ new) (suc i) w = written_ahead ss cs new i w.1
 
-  with_next : (ss : List ℕ) (cs : List Customer) (i : ℕ) (d : Customer) → i < length ss → i < length cs → set (with_shares w (take i ss) cs) i (w (get_or cs i d) (get_or ss i 0)) ≡ with_shares w (take (suc i) ss) cs
-  with_next ss [] i d h k = absurd (omega arith)
-  with_next [] (c ∷ cs) i d h k = absurd (omega arith)
-  with_next (s ∷ ss) (c ∷ cs) zero d h k = ap (λ (t : List Customer). w c s ∷ t) (sym (with_none cs))
-  with_next (s ∷ ss) (c ∷ cs) (suc i) d h k = ap (λ (t : List Customer). w c s ∷ t) (with_next ss cs i d (omega arith) (omega arith))
+  written_next : (ss : List ℕ) (cs new : List Customer) (i : ℕ) (row : Customer) → i < length ss → i < length cs → Written becomes (take i ss) cs new → becomes (get_or cs i nobody) (get_or ss i 0) row → Written becomes (take (suc i) ss) cs (set new i row)
+  written_next ss [] new i row h k w r = absurd (omega arith)
+  written_next [] (c ∷ cs) new i row h k w r = absurd (omega arith)
+  written_next (s ∷ ss) (c ∷ cs) new zero row h k w r = rw w (r, written_none cs)
+  written_next (s ∷ ss) (c ∷ cs) [] (suc i) row h k w r = absurd w
+  written_next (s ∷ ss) (c ∷ cs) (d ∷ new) (suc i) row h k w r = (w.0, written_next ss cs new i row (omega arith) (omega arith) w.1 r)
 
-  pub with_more : (ss : List ℕ) (cs : List Customer) (i : ℕ) (d : Customer) → i < length ss → i < length cs → set (with_shares w (take i ss) cs) i (w (get_or cs i d) (get_or ss i 0)) ≡ with_shares w (take (i + 1) ss) cs
-  with_more ss cs i d h k = rw (add-one i) (with_next ss cs i d h k)
+  pub written_more : (ss : List ℕ) (cs new : List Customer) (i : ℕ) (row : Customer) → i < length ss → i < length cs → Written becomes (take i ss) cs new → becomes (get_or cs i nobody) (get_or ss i 0) row → Written becomes (take (i + 1) ss) cs (set new i row)
+  written_more ss cs new i row h k w r = rw (add-one i) (written_next ss cs new i row h k w r)
 
-  -- shares past the last record are not used
-  pub with_front : (ss rest : List ℕ) (cs : List Customer) → length ss ≡ length cs → with_shares w (ss ++ rest) cs ≡ with_shares w ss cs
-  with_front ss rest [] e = refl
-  with_front [] rest (c ∷ cs) e = absurd (omega arith)
-  with_front (s ∷ ss) rest (c ∷ cs) e = ap (λ (t : List Customer). w c s ∷ t) (with_front ss rest cs (omega arith))
-
-  pub with_all : (ss : List ℕ) (cs : List Customer) (i : ℕ) → i ≡ length cs → i ≤ length ss → with_shares w (take i ss) cs ≡ with_shares w ss cs
-  with_all ss cs i e h =
-      sym (with_front (take i ss) (drop i ss) cs (length-take-le i ss h ∙ e)) ∙ ap (λ (t : List ℕ). with_shares w t cs) (take-append-drop i ss)
-
--- the step of a loop that replaces one record after the other
-pub pass_more : (to : Share) (ss : List ℕ) (cs now : List Customer) (i : ℕ) (row : Customer) → i < length ss → i < length cs → now ≡ with_shares (write_by to) (take i ss) cs → row ≡ write_by to (get_or now i nobody) (get_or ss i 0) → replaced_at key i row now ≡ with_shares (write_by to) (take (i + 1) ss) cs
-pass_more to ss cs now i row h k e r =
-    let w = write_by to in
-    let x = get_or now i nobody in
-    let stands : i < length now = omega (arith, ap length e, length_with w (take i ss) cs) in
-    let old : x ≡ get_or cs i nobody = ap (λ (t : List Customer). get_or t i nobody) e ∙ with_ahead w ss cs i nobody in
-    replaced_at-set key i row x now stands (get_or_default now i nobody x stands) (same_number to x (get_or ss i 0) ∙ ap key (sym r))
-    ∙ ap (λ (t : List Customer). set t i row) e
-    ∙ ap (set (with_shares w (take i ss) cs) i) (r ∙ ap (λ (c : Customer). w c (get_or ss i 0)) old)
-    ∙ with_more w ss cs i nobody h k
+  -- where a record can only become f of it and its share, it does
+  pub written_is : (f : Customer → ℕ → Customer) → ((c : Customer) (s : ℕ) (d : Customer) → becomes c s d → d ≡ f c s) → (ss : List ℕ) (cs new : List Customer) → Written becomes ss cs new → new ≡ with_shares f ss cs
+  written_is f are ss [] new w = w
+  written_is f are [] (c ∷ cs) new w = w
+  written_is f are (s ∷ ss) (c ∷ cs) [] w = absurd w
+  written_is f are (s ∷ ss) (c ∷ cs) (d ∷ new) w = rw (are c s d w.0, written_is f are ss cs new w.1) refl

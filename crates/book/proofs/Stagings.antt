@@ -1,11 +1,11 @@
 -- The answers of founding and closing, case by case.
-use Rattle.std.proofs.Common.{◌≡◌, ℕ, ◌*◌, ◌≤◌, Bool, true, false, leb, List, map, length, Ok, Err, sum_by, sym, refl, ap, ◌∙◌, subst, arith}
+use Rattle.std.proofs.Common.{◌≡◌, ℕ, ◌*◌, Bool, true, false, leb, List, map, length, Ok, Err, sum_by, sym, refl, ap, ◌∙◌, subst, arith}
 use Rattle.std.proofs.lemmas.List.Sums.{sum-map}
 use Rattle.std.proofs.lemmas.Bool.{and_parts, eq-eqb, leb-true, le-ltb, lt-ltb, ne_eqb}
 use Rattle.divider.specs.Questions.{limit, Passes}
 use Rattle.records.specs.declared.customer.Customer.{Customer}
 use Rattle.records.specs.Figures.{founding_weight}
-use Rattle.book.specs.declared.refusal.Refusal.TheVariants.{ShortSheet, NoFoundingWeight, Spoiled, OnTheWay}
+use Rattle.book.specs.declared.refusal.Refusal.TheVariants.{NoFoundingWeight, Spoiled, OnTheWay}
 use Rattle.book.specs.declared.stages.Intake.{Intake}
 use Rattle.book.specs.declared.stages.OpenBook.{OpenBook}
 use Rattle.book.specs.declared.stages.ClosedBook.{ClosedBook}
@@ -20,16 +20,7 @@ wide_at n cs ws ss r v e d h = ap (λ (k : ℕ). wide k ws ss) (sym e) ∙ sym d
 pub divisible_at : (t t' all all' : ℕ) (r v : Bool) → t ≡ t' → all ≡ all' → r ≡ divisible t all → r ≡ v → divisible t' all' ≡ v
 divisible_at t t' all all' r v e f d h = ap (λ (k : ℕ). divisible k all') (sym e) ∙ ap (divisible t) (sym f) ∙ sym d ∙ h
 
-pub summed_at : (f : Customer → ℕ) (all : ℕ) (cs cs' : List Customer) → all ≡ sum_by f cs → cs ≡ cs' → all ≡ sum_by f cs'
-summed_at f all cs cs' e d = e ∙ ap (sum_by f) d
-
 -- what the questions tell
-pub wide_weights : (n : ℕ) (ws ss : List ℕ) → wide n ws ss ≡ true → n ≤ length ws
-wide_weights n ws ss e = leb-true n (length ws) (and_parts (leb n (length ws)) (leb n (length ss)) e).0
-
-pub wide_shares : (n : ℕ) (ws ss : List ℕ) → wide n ws ss ≡ true → n ≤ length ss
-wide_shares n ws ss e = leb-true n (length ss) (and_parts (leb n (length ws)) (leb n (length ss)) e).1
-
 pub passing : (t all : ℕ) (f : Customer → ℕ) (cs : List Customer) → all ≡ sum_by f cs → (all ≡ 0 → ⊥) → (r : Bool) → r ≡ divisible t all → r ≡ true → Passes t (map f cs)
 passing t all f cs e some r d h =
     let s = e ∙ sym (sum-map f cs) in
@@ -39,9 +30,6 @@ passing t all f cs e some r d h =
     record { some = omega arith; small = omega arith; fits = rw s at fits }
 
 module _ {D : Type 0} (m : D → Meaning) (b : Intake D) (cs : List Customer) (ws ss : List ℕ) where
-  pub found_short : wide (length cs) ws ss ≡ false → Founds m b cs ws ss (Err (b, ShortSheet)) cs ws ss
-  found_short e = record { answer = rw e refl; after = rw e refl; sheets = record { weighed = rw e refl; shared = rw e refl } }
-
   module _ (e : wide (length cs) ws ss ≡ true) where
     pub found_weightless : sum_by founding_weight cs ≡ 0 → Founds m b cs ws ss (Err (b, NoFoundingWeight)) cs ws ss
     found_weightless z =
@@ -70,9 +58,6 @@ abbrev marks : List Customer → ℕ
 marks cs = sum_by (λ c. c.mark) cs
 
 module _ {D : Type 0} (m : D → Meaning) (b : OpenBook D) (cs : List Customer) (ws ss : List ℕ) where
-  pub close_short : wide (length cs) ws ss ≡ false → Closes m b cs ws ss (Err (b, ShortSheet)) cs ws ss
-  close_short e = record { answer = rw e refl; after = rw e refl; sheets = record { weighed = rw e refl; shared = rw e refl } }
-
   module _ (e : wide (length cs) ws ss ≡ true) where
     pub close_moving : (on_the_way cs ≡ 0 → ⊥) → Closes m b cs ws ss (Err (b, OnTheWay)) cs ws ss
     close_moving t =

@@ -1,5 +1,7 @@
 -- Refusals by their numbers, and questions in their order.
 use Rattle.std.specs.Prelude.{ℕ, Bool, cond, List, [], ◌∷◌, Some, None, Ok, Err, Option, Result}
+use Rattle.units.specs.declared.ranges.Refusal as units
+use Rattle.units.specs.declared.ranges.Refusal.TheVariants as ranges
 use Rattle.register.specs.declared.refusal.Refusal as register
 use Rattle.register.specs.declared.refusal.Refusal.TheVariants as kept
 use Rattle.book.specs.declared.refusal.Refusal.{Refusal}
@@ -42,3 +44,7 @@ abbrev pub of_register : register.Refusal → Refusal
 of_register kept.Full = Full
 of_register kept.Taken = Taken
 of_register kept.Missing = Missing
+
+-- A refused range, as the book gives it.
+abbrev pub of_range : units.Refusal → Refusal
+of_range ranges.OutOfRange = OutOfRange

@@ -7,4 +7,3 @@ pub mod Lines
 pub mod Rates
 pub mod Weights
 pub mod Written
-pub mod Charges

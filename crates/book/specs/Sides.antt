@@ -18,18 +18,18 @@ side s Tier2 = s.tier2
 abbrev pub no_sides : Sides
 no_sides = record { composite = 0; nonslice = 0; slice = 0; tier2 = 0 }
 
--- With an amount more, or less, in one pool.
+-- With an amount in one pool; with an amount more there, or less.
+abbrev pub with_side : Sides → Pool → ℕ → Sides
+with_side s Composite n = record { composite = n; nonslice = s.nonslice; slice = s.slice; tier2 = s.tier2 }
+with_side s NonSlice n = record { composite = s.composite; nonslice = n; slice = s.slice; tier2 = s.tier2 }
+with_side s Slice n = record { composite = s.composite; nonslice = s.nonslice; slice = n; tier2 = s.tier2 }
+with_side s Tier2 n = record { composite = s.composite; nonslice = s.nonslice; slice = s.slice; tier2 = n }
+
 abbrev pub raised : Sides → Pool → ℕ → Sides
-raised s Composite n = record { composite = s.composite + n; nonslice = s.nonslice; slice = s.slice; tier2 = s.tier2 }
-raised s NonSlice n = record { composite = s.composite; nonslice = s.nonslice + n; slice = s.slice; tier2 = s.tier2 }
-raised s Slice n = record { composite = s.composite; nonslice = s.nonslice; slice = s.slice + n; tier2 = s.tier2 }
-raised s Tier2 n = record { composite = s.composite; nonslice = s.nonslice; slice = s.slice; tier2 = s.tier2 + n }
+raised s p n = with_side s p (side s p + n)
 
 abbrev pub lowered : Sides → Pool → ℕ → Sides
-lowered s Composite n = record { composite = s.composite - n; nonslice = s.nonslice; slice = s.slice; tier2 = s.tier2 }
-lowered s NonSlice n = record { composite = s.composite; nonslice = s.nonslice - n; slice = s.slice; tier2 = s.tier2 }
-lowered s Slice n = record { composite = s.composite; nonslice = s.nonslice; slice = s.slice - n; tier2 = s.tier2 }
-lowered s Tier2 n = record { composite = s.composite; nonslice = s.nonslice; slice = s.slice; tier2 = s.tier2 - n }
+lowered s p n = with_side s p (side s p - n)
 
 -- The cost sides, and the credit sides, once a line of so many cents is posted.
 abbrev pub posted_costs : Sides → Entry → ℕ → Sides

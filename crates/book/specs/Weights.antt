@@ -1,13 +1,8 @@
 -- The figures of customers that are added up, or divided by.
-use Rattle.std.specs.Prelude.{ℕ}
+use Rattle.std.specs.Prelude.{ℕ, List}
+use Rattle.std.specs.List.{AllZip}
 use Rattle.records.specs.declared.customer.Customer.{Customer}
-use Rattle.records.specs.Figures.{founding_weight, pool_weight}
-use Rattle.book.specs.declared.weighing.Weighing.{Weighing}
-use Rattle.book.specs.declared.weighing.Weighing.TheVariants.{Founding, Mark, Transit, Pool}
 
--- What a customer weighs.
-abbrev pub weight_by : Weighing → Customer → ℕ
-weight_by Founding = founding_weight
-weight_by Mark = λ c. c.mark
-weight_by Transit = λ c. c.transit
-weight_by (Pool p) = pool_weight p
+-- What holds of the numbers that the customers weigh, where `of` says what each may weigh.
+abbrev pub Weighed : (Customer → ℕ → Type 0) → List Customer → (List ℕ → Type 0) → Type 0
+Weighed of customers P = (by : List ℕ) × AllZip of customers by × P by

@@ -1,11 +1,14 @@
--- Which figure of a customer's record a share becomes.
-use Rattle.std.specs.Prelude.{ℕ}
+-- Shares written into the records of customers.
+use Rattle.std.specs.Prelude.{◌≡◌, ℕ, ◌^◌, ◌<◌, List, [], ◌∷◌}
 use Rattle.records.specs.declared.customer.Customer.{Customer}
-use Rattle.book.specs.declared.sharing.Share.{Share}
-use Rattle.book.specs.declared.sharing.Share.TheVariants.{Mark, Rhwm}
-use Rattle.book.specs.Customers.{marked, rated}
 
--- The record with a share written into it: as its mark, and nothing on the way; or as its RHWM.
-abbrev pub write_by : Share → Customer → ℕ → Customer
-write_by Mark = λ c s. marked c s 0
-write_by Rhwm = rated
+-- Each record with the share at its place written into it, where `becomes` says what it may become.
+abbrev pub Written : (Customer → ℕ → Customer → Type 0) → List ℕ → List Customer → List Customer → Type 0
+Written becomes shares [] new = new ≡ []
+Written becomes [] (c ∷ cs) new = new ≡ c ∷ cs
+Written becomes (s ∷ shares) (c ∷ cs) [] = ⊥
+Written becomes (s ∷ shares) (c ∷ cs) (d ∷ new) = becomes c s d × Written becomes shares cs new
+
+-- A record keeps its number, whatever share is written into it.
+abbrev pub KeepsNumber : (Customer → ℕ → Customer → Type 0) → Customer → Type 0
+KeepsNumber becomes c = (s : ℕ) (d : Customer) → s < 2 ^ 32 → becomes c s d → d.number ≡ c.number

@@ -1,6 +1,6 @@
 //! The amounts on the sides of the pools.
 ghost use Rattle.std.specs.Prelude.{◌≡◌, ◌+◌, ◌^◌, ◌<◌, ◌≤◌, nat_le};
-ghost use Rattle.book.specs.Sides.{side, raised, lowered, most_cents};
+ghost use Rattle.book.specs.Sides.{side, with_side, raised, lowered, most_cents};
 
 use crate::sides::Sides;
 use records::Pool;
@@ -29,29 +29,36 @@ impl Sides {
         side <= MOST_CENTS && cents <= MOST_CENTS - side
     }
 
+    // With so many cents in a pool.
+    fn with(self, pool: Pool, cents: u64) -> Sides
+        ensures { result ≡ with_side self pool cents }
+    {
+        match pool {
+            Pool::Composite => Sides {
+                composite: cents,
+                ..self
+            },
+            Pool::NonSlice => Sides {
+                nonslice: cents,
+                ..self
+            },
+            Pool::Slice => Sides {
+                slice: cents,
+                ..self
+            },
+            Pool::Tier2 => Sides {
+                tier2: cents,
+                ..self
+            },
+        }
+    }
+
     /// With so many cents more in a pool.
     pub(crate) fn raised(self, pool: Pool, cents: u64) -> Sides
         requires { side self pool + cents < 2 ^ 64 }
         ensures { result ≡ raised self pool cents }
     {
-        match pool {
-            Pool::Composite => Sides {
-                composite: self.composite + cents,
-                ..self
-            },
-            Pool::NonSlice => Sides {
-                nonslice: self.nonslice + cents,
-                ..self
-            },
-            Pool::Slice => Sides {
-                slice: self.slice + cents,
-                ..self
-            },
-            Pool::Tier2 => Sides {
-                tier2: self.tier2 + cents,
-                ..self
-            },
-        }
+        self.with(pool, self.side(pool) + cents)
     }
 
     /// With so many cents less in a pool.
@@ -59,23 +66,6 @@ impl Sides {
         requires { cents ≤ side self pool }
         ensures { result ≡ lowered self pool cents }
     {
-        match pool {
-            Pool::Composite => Sides {
-                composite: self.composite - cents,
-                ..self
-            },
-            Pool::NonSlice => Sides {
-                nonslice: self.nonslice - cents,
-                ..self
-            },
-            Pool::Slice => Sides {
-                slice: self.slice - cents,
-                ..self
-            },
-            Pool::Tier2 => Sides {
-                tier2: self.tier2 - cents,
-                ..self
-            },
-        }
+        self.with(pool, self.side(pool) - cents)
     }
 }

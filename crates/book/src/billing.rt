@@ -1,60 +1,36 @@
 //! A closed book bills its customers, pool by pool.
-ghost use Rattle.std.specs.Prelude.{◌≡◌, ℕ, ◌+◌, ◌<◌, ◌≤◌, map, length, take, slice_index};
+ghost use Rattle.std.specs.Prelude.{◌≡◌, ℕ, ◌^◌, ◌<◌, pos, ◌-ℤ◌, map, length, slice_index};
 ghost use Rattle.register.specs.Register.{records};
-ghost use Rattle.book.specs.Charges.{sign_of, signed, Holds};
-ghost use Rattle.book.specs.Rates.{size, written, Bills};
+ghost use Rattle.book.specs.Rates.{like, size, Bills};
 ghost use Rattle.book.specs.Sides.{side, cost};
 
 use crate::refusal::Refusal;
 use crate::sharing::divide_by;
 use crate::stages::ClosedBook;
-use crate::weighing::{Weighing, divisible, sum_of, wide};
+use crate::weighing::{divisible, sum_of, wide};
 use divider::Divider;
 use records::{Customer, Pool};
 use register::Register;
-use std::cmp::Ordering;
 
-/// The sign of a cost, and of its charges.
-#[derive(Clone, Copy)]
-pub(crate) enum Sign {
-    Zero,
-    Plus,
-    Minus,
-}
-
-impl Sign {
-    // A share under this sign.
-    fn charge(self, share: u64) -> i64
-        requires { Holds self share }
-        ensures { result ≡ signed self share }
-    {
-        match self {
-            Sign::Zero => 0,
-            Sign::Plus => share as i64,
-            Sign::Minus => -(share as i64),
-        }
-    }
-}
-
-// Fills a part of the charges with shares under a sign.
-fn fill_charges(part: &mut [i64], shares: &[u64], sign: Sign)
-    requires wide { length part.old ≤ length shares.now }
-    requires holds { (k : ℕ) → k < length part.old → Holds sign (slice_index shares.now k) }
-    ensures { part.new ≡ map (signed sign) (take (length part.old) shares.now) }
+// A share of a cost, with the sign of the cost.
+fn charge(share: u64, costs: u64, credits: u64) -> i64
+    requires { share < 2 ^ 63 }
+    ensures { result ≡ like (pos costs -ℤ pos credits) share }
 {
-    for i in 0..part.len() {
-        part[i] = sign.charge(shares[i]);
-    }
+    let share = share as i64;
+    if costs < credits { -share } else { share }
 }
 
-// Writes `n` shares under a sign into the charges from a place on.
-fn write_charges(charges: &mut [i64], from: usize, n: usize, shares: &[u64], sign: Sign)
-    requires within { from + n ≤ length charges.old }
-    requires wide { n ≤ length shares.now }
-    requires holds { (k : ℕ) → k < n → Holds sign (slice_index shares.now k) }
-    ensures { charges.new ≡ written charges.old from (map (signed sign) (take n shares.now)) }
+// Fills a part of the charges with the shares of a cost.
+fn fill_charges(part: &mut [i64], shares: &[u64], costs: u64, credits: u64)
+    requires each { length shares.now ≡ length part.old }
+    requires small { (k : ℕ) → k < length shares.now → slice_index shares.now k < 2 ^ 63 }
+    ensures { part.new ≡ map (like (pos costs -ℤ pos credits)) shares.now }
 {
-    fill_charges(&mut charges[from..from + n], shares, sign);
+    // By place, since nothing is known of what a `zip` with `iter_mut` wrote.
+    for (i, share) in shares.iter().enumerate() {
+        part[i] = charge(*share, costs, credits);
+    }
 }
 
 impl<D> ClosedBook<D> {
@@ -66,17 +42,12 @@ impl<D> ClosedBook<D> {
         (self.costs.side(pool), self.credits.side(pool))
     }
 
-    // What a pool costs: its cost side less its credit side, by sign and size.
-    fn cost(&self, pool: Pool) -> (Sign, u64)
-        ensures sign { result.0 ≡ sign_of (cost self.now.costs self.now.credits pool) }
-        ensures size { result.1 ≡ size (cost self.now.costs self.now.credits pool) }
+    // The size of what a pool costs.
+    fn size(&self, pool: Pool) -> u64
+        ensures { result ≡ size (cost self.now.costs self.now.credits pool) }
     {
         let (costs, credits) = self.sides(pool);
-        match costs.cmp(&credits) {
-            Ordering::Less => (Sign::Minus, credits - costs),
-            Ordering::Equal => (Sign::Zero, 0),
-            Ordering::Greater => (Sign::Plus, costs - credits),
-        }
+        costs.abs_diff(credits)
     }
 }
 
@@ -111,19 +82,23 @@ impl<D: Divider> ClosedBook<D> {
         if !wide(n, weights, shares) || charges.len() < 4 * n {
             return Err(Refusal::ShortSheet);
         }
-        let (sign, size) = self.cost(pool);
-        if size != 0 {
-            let by = Weighing::Pool(pool);
-            let sum = sum_of(records, by);
-            if sum == 0 {
-                return Err(Refusal::NoWeight);
-            }
-            if !divisible(size, sum) {
-                return Err(Refusal::Spoiled);
-            }
-            divide_by(&self.divider, size, records, by, weights, shares);
+        let from = pool.order() * n;
+        let size = self.size(pool);
+        if size == 0 {
+            charges[from..from + n].fill(0);
+            return Ok(());
         }
-        write_charges(charges, pool.order() * n, n, shares, sign);
+        let weight = |customer: &Customer| customer.pool_weight(pool);
+        let sum = sum_of(records, weight);
+        if sum == 0 {
+            return Err(Refusal::NoWeight);
+        }
+        if !divisible(size, sum) {
+            return Err(Refusal::Spoiled);
+        }
+        divide_by(&self.divider, size, records, weight, weights, shares);
+        let (costs, credits) = self.sides(pool);
+        fill_charges(&mut charges[from..from + n], &shares[..n], costs, credits);
         Ok(())
     }
 }

@@ -6,9 +6,9 @@ ghost use Rattle.book.specs.Customers.{key};
 ghost use Rattle.book.specs.Rates.{Closes};
 
 use crate::refusal::Refusal;
-use crate::sharing::{Share, share_out};
+use crate::sharing::share_out;
 use crate::stages::{ClosedBook, OpenBook};
-use crate::weighing::{Weighing, divisible, sum_of, wide};
+use crate::weighing::{divisible, sum_of, wide};
 use divider::Divider;
 use records::Customer;
 use register::Register;
@@ -31,16 +31,16 @@ impl<D: Divider> OpenBook<D> {
         ensures done { Closes D.Divider.meaning self (records customers.old) weights.old shares.old result (records customers.new) weights.new shares.new }
         ensures kept { Kept key customers.old customers.new }
     {
-        let by = Weighing::Mark;
         let total = self.header.capability().thousandths();
         if !wide(customers.len(), weights, shares) {
             return Err((self, Refusal::ShortSheet));
         }
-        let moving = sum_of(customers.records(), Weighing::Transit);
+        let moving = sum_of(customers.records(), |customer| u64::from(customer.transit));
         if moving != 0 {
             return Err((self, Refusal::OnTheWay));
         }
-        let sum = sum_of(customers.records(), by);
+        let weight = |customer: &Customer| u64::from(customer.mark);
+        let sum = sum_of(customers.records(), weight);
         if sum == 0 || !divisible(total, sum) {
             return Err((self, Refusal::Spoiled));
         }
@@ -48,8 +48,11 @@ impl<D: Divider> OpenBook<D> {
             &self.divider,
             total,
             customers,
-            by,
-            Share::Rhwm,
+            weight,
+            |customer, share| Customer {
+                rhwm: share,
+                ..customer
+            },
             weights,
             shares,
         );
@@ -58,7 +61,7 @@ impl<D: Divider> OpenBook<D> {
 }
 
 impl<D> OpenBook<D> {
-    // The book as closing leaves it.
+    // The book as closing leaves it. No From, which anyone could call.
     fn into_closed(self) -> ClosedBook<D>
         ensures { result ≡ closed self }
     {

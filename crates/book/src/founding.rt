@@ -6,10 +6,10 @@ ghost use Rattle.book.specs.Customers.{key};
 ghost use Rattle.book.specs.Rates.{Founds};
 
 use crate::refusal::Refusal;
-use crate::sharing::{Share, share_out};
+use crate::sharing::share_out;
 use crate::sides::Sides;
 use crate::stages::{Intake, OpenBook};
-use crate::weighing::{Weighing, divisible, sum_of, wide};
+use crate::weighing::{divisible, sum_of, wide};
 use divider::Divider;
 use records::Customer;
 use register::Register;
@@ -48,12 +48,11 @@ impl<D: Divider> Intake<D> {
         ensures done { Founds D.Divider.meaning self (records customers.old) weights.old shares.old result (records customers.new) weights.new shares.new }
         ensures kept { Kept key customers.old customers.new }
     {
-        let by = Weighing::Founding;
         let total = self.header.founding_total().thousandths();
         if !wide(customers.len(), weights, shares) {
             return Err((self, Refusal::ShortSheet));
         }
-        let sum = sum_of(customers.records(), by);
+        let sum = sum_of(customers.records(), Customer::founding_weight);
         if sum == 0 {
             return Err((self, Refusal::NoFoundingWeight));
         }
@@ -64,8 +63,12 @@ impl<D: Divider> Intake<D> {
             &self.divider,
             total,
             customers,
-            by,
-            Share::Mark,
+            Customer::founding_weight,
+            |customer, share| Customer {
+                mark: share,
+                transit: 0,
+                ..customer
+            },
             weights,
             shares,
         );
@@ -74,7 +77,8 @@ impl<D: Divider> Intake<D> {
 }
 
 impl<D> Intake<D> {
-    // The book as founding leaves it: no grants and no costs yet.
+    // The book as founding leaves it: no grants and no costs yet. No From,
+    // which anyone could call.
     fn into_open(self) -> OpenBook<D>
         ensures { result ≡ opened self }
     {

@@ -8,11 +8,10 @@ ghost use Rattle.book.specs.Sides.{stays, all_stay, all_hold};
 
 use crate::figures::Posting;
 use crate::refusal::Refusal;
-use crate::sides::Sides;
 use crate::stages::OpenBook;
 use records::{CostLine, Entry, Pool};
 use register::Register;
-use units::{Cents, Letter};
+use units::{Cents, Letter, in_range};
 
 impl<D> OpenBook<D> {
     /// Enters a cost line, and raises the sides of its pools.
@@ -31,7 +30,7 @@ impl<D> OpenBook<D> {
         ensures done { Posts self.old (room lines.old) (records lines.old) number posting amount.amount result self.new (records lines.new) }
         ensures kept { Kept key lines.old lines.new }
     {
-        if !units::in_range(Letter::Expense, 2, number as u64) {
+        if !in_range(Letter::Expense, 2, u64::from(number)) {
             return Err(Refusal::OutOfRange);
         }
         let Some(entry) = posting.entry() else {
@@ -43,30 +42,57 @@ impl<D> OpenBook<D> {
         if lines.get(number).is_ok() {
             return Err(Refusal::Taken);
         }
-        let cents = amount.amount();
-        if !all_stay(self.costs, self.credits, entry, cents) {
-            return Err(Refusal::OverSide);
-        }
-        let _ = lines.add(CostLine {
+        let line = CostLine {
             number,
             entry,
-            cents,
-        });
-        self.raise(entry, cents);
+            cents: amount.amount(),
+        };
+        if !self.has_room(line) {
+            return Err(Refusal::OverSide);
+        }
+        let _ = lines.add(line);
+        self.raise(line);
         Ok(())
     }
 
-    // Raises the sides of the pools of a line.
-    fn raise(&mut self, entry: Entry, cents: u64)
-        requires { all_stay self.old.costs self.old.credits entry cents ≡ true }
-        ensures { self.new ≡ posted self.old entry cents }
+    // Whether both sides of each pool that a line touches stay within the most cents.
+    fn has_room(&self, line: CostLine) -> bool
+        ensures { result ≡ all_stay self.now.costs self.now.credits line.entry line.cents }
     {
-        match entry {
-            Entry::Expense(pool) => self.costs = self.costs.raised(pool, cents),
-            Entry::Credit(pool) => self.credits = self.credits.raised(pool, cents),
+        match line.entry {
+            Entry::Expense(pool) | Entry::Credit(pool) => self.pool_has_room(pool, line),
             Entry::Shift(first, second) => {
-                self.costs = self.costs.raised(first, cents);
-                self.credits = self.credits.raised(second, cents);
+                self.pool_has_room(first, line) && self.pool_has_room(second, line)
+            }
+        }
+    }
+
+    // Whether both sides of one of its pools stay within the most cents.
+    fn pool_has_room(&self, pool: Pool, line: CostLine) -> bool
+        ensures { result ≡ stays self.now.costs self.now.credits line.entry line.cents pool }
+    {
+        let (cost, credit) = match line.entry {
+            Entry::Expense(first) => (where_same(first, pool, line.cents), 0),
+            Entry::Credit(first) => (0, where_same(first, pool, line.cents)),
+            Entry::Shift(first, second) => (
+                where_same(first, pool, line.cents),
+                where_same(second, pool, line.cents),
+            ),
+        };
+        self.costs.has_room(pool, cost) && self.credits.has_room(pool, credit)
+    }
+
+    // Raises the sides of the pools of a line.
+    fn raise(&mut self, line: CostLine)
+        requires { all_stay self.old.costs self.old.credits line.entry line.cents ≡ true }
+        ensures { self.new ≡ posted self.old line.entry line.cents }
+    {
+        match line.entry {
+            Entry::Expense(pool) => self.costs = self.costs.raised(pool, line.cents),
+            Entry::Credit(pool) => self.credits = self.credits.raised(pool, line.cents),
+            Entry::Shift(first, second) => {
+                self.costs = self.costs.raised(first, line.cents);
+                self.credits = self.credits.raised(second, line.cents);
             }
         }
     }
@@ -82,56 +108,41 @@ impl<D> OpenBook<D> {
         ensures kept { Kept key lines.old lines.new }
     {
         let line = lines.get(number)?;
-        if !all_hold(self.costs, self.credits, line.entry, line.cents) {
+        if !self.holds(line) {
             return Err(Refusal::Spoiled);
         }
         let _ = lines.remove(number);
-        self.lower(line.entry, line.cents);
+        self.lower(line);
         Ok(())
     }
 
-    // Lowers the sides that a line raised.
-    fn lower(&mut self, entry: Entry, cents: u64)
-        requires { all_hold self.old.costs self.old.credits entry cents ≡ true }
-        ensures { self.new ≡ striking self.old entry cents }
+    // Whether the sides that a line raised hold its cents.
+    fn holds(&self, line: CostLine) -> bool
+        ensures { result ≡ all_hold self.now.costs self.now.credits line.entry line.cents }
     {
-        match entry {
-            Entry::Expense(pool) => self.costs = self.costs.lowered(pool, cents),
-            Entry::Credit(pool) => self.credits = self.credits.lowered(pool, cents),
+        match line.entry {
+            Entry::Expense(pool) => line.cents <= self.costs.side(pool),
+            Entry::Credit(pool) => line.cents <= self.credits.side(pool),
             Entry::Shift(first, second) => {
-                self.costs = self.costs.lowered(first, cents);
-                self.credits = self.credits.lowered(second, cents);
+                line.cents <= self.costs.side(first) && line.cents <= self.credits.side(second)
             }
         }
     }
-}
 
-// Whether both sides of each pool that a line touches stay within the most cents.
-fn all_stay(costs: Sides, credits: Sides, entry: Entry, cents: u64) -> bool
-    ensures { result ≡ all_stay costs credits entry cents }
-{
-    match entry {
-        Entry::Expense(pool) | Entry::Credit(pool) => both_stay(costs, credits, entry, cents, pool),
-        Entry::Shift(first, second) => {
-            both_stay(costs, credits, entry, cents, first)
-                && both_stay(costs, credits, entry, cents, second)
+    // Lowers the sides that a line raised.
+    fn lower(&mut self, line: CostLine)
+        requires { all_hold self.old.costs self.old.credits line.entry line.cents ≡ true }
+        ensures { self.new ≡ striking self.old line.entry line.cents }
+    {
+        match line.entry {
+            Entry::Expense(pool) => self.costs = self.costs.lowered(pool, line.cents),
+            Entry::Credit(pool) => self.credits = self.credits.lowered(pool, line.cents),
+            Entry::Shift(first, second) => {
+                self.costs = self.costs.lowered(first, line.cents);
+                self.credits = self.credits.lowered(second, line.cents);
+            }
         }
     }
-}
-
-// Whether both sides of one of its pools stay within the most cents.
-fn both_stay(costs: Sides, credits: Sides, entry: Entry, cents: u64, pool: Pool) -> bool
-    ensures { result ≡ stays costs credits entry cents pool }
-{
-    let (cost, credit) = match entry {
-        Entry::Expense(first) => (where_same(first, pool, cents), 0),
-        Entry::Credit(first) => (0, where_same(first, pool, cents)),
-        Entry::Shift(first, second) => (
-            where_same(first, pool, cents),
-            where_same(second, pool, cents),
-        ),
-    };
-    costs.has_room(pool, cost) && credits.has_room(pool, credit)
 }
 
 // The cents where the two pools are the same, else 0.
@@ -139,17 +150,4 @@ fn where_same(first: Pool, second: Pool, cents: u64) -> u64
     ensures { result ≡ where_same first second cents }
 {
     if first == second { cents } else { 0 }
-}
-
-// Whether the sides that a line raised hold its cents.
-fn all_hold(costs: Sides, credits: Sides, entry: Entry, cents: u64) -> bool
-    ensures { result ≡ all_hold costs credits entry cents }
-{
-    match entry {
-        Entry::Expense(pool) => cents <= costs.side(pool),
-        Entry::Credit(pool) => cents <= credits.side(pool),
-        Entry::Shift(first, second) => {
-            cents <= costs.side(first) && cents <= credits.side(second)
-        }
-    }
 }

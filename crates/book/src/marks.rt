@@ -1,8 +1,9 @@
 //! Grants of mark, and transfers: lift, land, give back.
-ghost use Rattle.std.specs.Prelude.{◌≡◌, ◌+◌, ◌^◌, ◌<◌, ◌≤◌, if◌then◌else◌, MatchResult, nat_le};
+ghost use Rattle.std.specs.Prelude.{◌≡◌, ◌≢◌, ◌+◌, ◌^◌, ◌<◌, ◌≤◌, if◌then◌else◌, MatchResult, nat_le, Some, Ok, Err};
+ghost use Rattle.register.specs.Records.{lookup};
 ghost use Rattle.register.specs.Register.{records, Kept};
-ghost use Rattle.book.specs.Customers.{key};
-ghost use Rattle.book.specs.declared.refusal.Refusal.TheVariants.{Spoiled};
+ghost use Rattle.book.specs.Customers.{key, customer};
+ghost use Rattle.book.specs.declared.refusal.Refusal.TheVariants.{NotOnTheWay, Spoiled};
 ghost use Rattle.book.specs.Marks.{most_mark, remarked, Grants, Lifts, Lands, Returns};
 
 use crate::parcel::Parcel;
@@ -20,10 +21,8 @@ fn raised(mark: u32, more: u64) -> Result<u32, Refusal>
     requires { more < 2 ^ 32 }
     ensures { MatchResult result (λ sum. (mark + more ≤ most_mark) × (sum ≡ mark + more)) (λ refusal. (most_mark < mark + more) × (refusal ≡ Spoiled)) }
 {
-    match Load::new(mark as u64 + more) {
-        Ok(load) => Ok(load.thousandths() as u32),
-        Err(_) => Err(Refusal::Spoiled),
-    }
+    let load = Load::new(u64::from(mark) + more).map_err(|_| Refusal::Spoiled)?;
+    Ok(load.thousandths() as u32)
 }
 
 impl<D> OpenBook<D> {
@@ -49,9 +48,7 @@ impl<D> OpenBook<D> {
         if load > MOST_GRANTED || self.granted > MOST_GRANTED - load {
             return Err(Refusal::OverGranted);
         }
-        let Ok(mark) = raised(customer.mark, load) else {
-            return Err(Refusal::Spoiled);
-        };
+        let mark = raised(customer.mark, load)?;
         let _ = customers.replace(Customer { mark, ..customer });
         self.granted += load;
         Ok(())
@@ -81,7 +78,7 @@ impl<D> OpenBook<D> {
         if customer.transit != 0 {
             return Err(Refusal::AlreadyLifted);
         }
-        if load > customer.mark as u64 {
+        if load > u64::from(customer.mark) {
             return Err(Refusal::OverMark);
         }
         let transit = load as u32;
@@ -98,21 +95,30 @@ impl<D> OpenBook<D> {
     }
 }
 
+// The customer of a number, where a load is on the way from it.
+fn giver_of(customers: &Register<'_, Customer>, number: u32) -> Result<Customer, Refusal>
+    ensures { MatchResult result (λ c. (lookup key number (records customers.now) ≡ Some c) × (c.transit ≢ 0)) (λ e. ((customer (records customers.now) number).transit ≡ 0) × (e ≡ NotOnTheWay)) }
+{
+    let giver = customers.get(number).map_err(|_| Refusal::NotOnTheWay)?;
+    if giver.transit == 0 {
+        return Err(Refusal::NotOnTheWay);
+    }
+    Ok(giver)
+}
+
 // Puts the load on the way back on the giver's mark; where there is no room, nothing changes.
-fn send_home(customers: &mut Register<'_, Customer>, giver: Customer, refusal: Refusal) -> Refusal
-    ensures answer { result ≡ (if nat_le (giver.mark + giver.transit) most_mark then refusal else Spoiled) }
+fn put_back(customers: &mut Register<'_, Customer>, giver: Customer) -> Result<(), Refusal>
+    ensures answer { result ≡ (if nat_le (giver.mark + giver.transit) most_mark then Ok tt else Err Spoiled) }
     ensures after { records customers.new ≡ (if nat_le (giver.mark + giver.transit) most_mark then remarked (records customers.old) giver (giver.mark + giver.transit) 0 else records customers.old) }
     ensures kept { Kept key customers.old customers.new }
 {
-    let Ok(mark) = raised(giver.mark, giver.transit as u64) else {
-        return Refusal::Spoiled;
-    };
+    let mark = raised(giver.mark, u64::from(giver.transit))?;
     let _ = customers.replace(Customer {
         mark,
         transit: 0,
         ..giver
     });
-    refusal
+    Ok(())
 }
 
 impl<D> OpenBook<D> {
@@ -134,21 +140,16 @@ impl<D> OpenBook<D> {
         ensures kept { Kept key customers.old customers.new }
     {
         let giver = parcel.open();
-        let Ok(from) = customers.get(giver) else {
-            return Err(Refusal::NotOnTheWay);
-        };
-        if from.transit == 0 {
-            return Err(Refusal::NotOnTheWay);
-        }
+        let from = giver_of(customers, giver)?;
         let Ok(to) = customers.get(receiver) else {
-            return Err(send_home(customers, from, Refusal::NoReceiver));
+            put_back(customers, from)?;
+            return Err(Refusal::NoReceiver);
         };
         if receiver == giver {
-            return Err(send_home(customers, from, Refusal::SameCustomer));
+            put_back(customers, from)?;
+            return Err(Refusal::SameCustomer);
         }
-        let Ok(mark) = raised(to.mark, from.transit as u64) else {
-            return Err(Refusal::Spoiled);
-        };
+        let mark = raised(to.mark, u64::from(from.transit))?;
         let _ = customers.replace(Customer { transit: 0, ..from });
         let _ = customers.replace(Customer { mark, ..to });
         Ok(())
@@ -167,21 +168,7 @@ impl<D> OpenBook<D> {
         ensures done { Returns (records customers.old) parcel result (records customers.new) }
         ensures kept { Kept key customers.old customers.new }
     {
-        let giver = parcel.open();
-        let Ok(from) = customers.get(giver) else {
-            return Err(Refusal::NotOnTheWay);
-        };
-        if from.transit == 0 {
-            return Err(Refusal::NotOnTheWay);
-        }
-        let Ok(mark) = raised(from.mark, from.transit as u64) else {
-            return Err(Refusal::Spoiled);
-        };
-        let _ = customers.replace(Customer {
-            mark,
-            transit: 0,
-            ..from
-        });
-        Ok(())
+        let giver = giver_of(customers, parcel.open())?;
+        put_back(customers, giver)
     }
 }

@@ -6,6 +6,7 @@ ghost use Rattle.std.specs.Prelude.{◌≡◌, true};
 /// the giver's record.
 pub struct Parcel {
     pub(crate) giver: u32,
+    // A flag, since the clause of the drop asks for it.
     pub(crate) spent: bool,
 }
 

@@ -20,6 +20,8 @@ pub struct OpenBook<D> {
 }
 
 /// A book whose RHWMs are written: it bills.
+// A type of its own with the fields of an open book, so that no call takes a
+// book of another stage.
 #[derive(Drop)]
 pub struct ClosedBook<D> {
     pub(crate) divider: D,

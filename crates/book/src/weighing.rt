@@ -1,56 +1,37 @@
 //! What customers weigh, one by one and all together.
-ghost use Rattle.std.specs.Prelude.{◌≡◌, ◌≤◌, map, length, sum_by};
+ghost use Rattle.std.specs.Fn.{FnReturnsAt};
+ghost use Rattle.std.specs.Prelude.{◌≡◌, ◌≤◌, length, sum};
 ghost use Rattle.book.specs.Rates.{on_top, wide, divisible};
-ghost use Rattle.book.specs.Weights.{weight_by};
+ghost use Rattle.book.specs.Weights.{Weighed};
 
 use divider::LIMIT;
-use records::{Customer, Pool};
+use records::Customer;
 
-/// By which figure customers are weighed.
-#[derive(Clone, Copy)]
-pub(crate) enum Weighing {
-    /// The founding weight.
-    Founding,
-    /// The high water mark.
-    Mark,
-    /// The load on the way.
-    Transit,
-    /// The weight in a pool.
-    Pool(Pool),
-}
-
-impl Weighing {
-    // What a customer weighs.
-    fn weight(self, customer: &Customer) -> u64
-        ensures { result ≡ weight_by self customer.now }
-    {
-        match self {
-            Weighing::Founding => customer.founding_weight(),
-            Weighing::Mark => customer.mark as u64,
-            Weighing::Transit => customer.transit as u64,
-            Weighing::Pool(pool) => customer.pool_weight(pool),
-        }
-    }
-}
-
-// What the customers weigh together.
-pub(crate) fn sum_of(customers: &[Customer], by: Weighing) -> u128
-    ensures { result ≡ sum_by (weight_by by) customers.now }
+// What the customers weigh together, each as `weight` says.
+pub(crate) fn sum_of<F: Fn(&Customer) -> u64>(customers: &[Customer], weight: F) -> u128
+    requires { F.IsAlwaysCallable weight }
+    ensures { Weighed (FnReturnsAt F.Fn weight) customers.now (λ by. result ≡ sum by) }
 {
     let mut sum = 0;
     for customer in customers {
-        sum += by.weight(customer) as u128;
+        sum += u128::from(weight(customer));
     }
     sum
 }
 
 // Writes what each customer weighs into the first places of a sheet.
-pub(crate) fn write_weights(customers: &[Customer], by: Weighing, sheet: &mut [u64])
-    requires { length customers.now ≤ length sheet.old }
-    ensures { sheet.new ≡ on_top (map (weight_by by) customers.now) sheet.old }
+pub(crate) fn write_weights<F: Fn(&Customer) -> u64>(
+    customers: &[Customer],
+    weight: F,
+    sheet: &mut [u64],
+)
+    requires callable { F.IsAlwaysCallable weight }
+    requires long { length customers.now ≤ length sheet.old }
+    ensures { Weighed (FnReturnsAt F.Fn weight) customers.now (λ by. sheet.new ≡ on_top by sheet.old) }
 {
+    // By place, since nothing is known of what a `zip` with `iter_mut` wrote.
     for (i, customer) in customers.iter().enumerate() {
-        sheet[i] = by.weight(customer);
+        sheet[i] = weight(customer);
     }
 }
 

@@ -6,25 +6,12 @@
 #![tactic(auto)]
 
 ghost use Rattle.std.specs.Prelude.{◌≡◌, ℕ, List, sum};
-ghost use Rattle.divider.specs.Questions.{number, Passes, Weighed, Divided};
+ghost use Rattle.divider.specs.Questions.{Passes, Weighed, Divided};
 ghost use Rattle.divider.specs.Shares.{Fair};
 
 mod refusal;
 
 pub use refusal::Refusal;
-
-impl Refusal {
-    /// The number by which this refusal is known.
-    pub fn number(self) -> u8
-        ensures { result ≡ number self }
-    {
-        match self {
-            Refusal::SheetLength => 40,
-            Refusal::NoWeight => 41,
-            Refusal::TooLarge => 42,
-        }
-    }
-}
 
 /// A rule that divides a total by weights.
 ///
@@ -54,11 +41,7 @@ pub const LIMIT: u64 = 0x7fff_ffff_ffff_ffff;
 fn sum_of(weights: &[u64]) -> u128
     ensures { result ≡ sum weights.now }
 {
-    let mut sum: u128 = 0;
-    for weight in weights {
-        sum += *weight as u128;
-    }
-    sum
+    weights.iter().map(|weight| u128::from(*weight)).sum()
 }
 
 /// Puts a divider's questions in their order, and answers the sum of the weights.
@@ -74,7 +57,8 @@ pub fn weigh(total: u64, weights: &[u64], places: usize) -> Result<u64, Refusal>
     if sum == 0 {
         return Err(Refusal::NoWeight);
     }
-    if sum > LIMIT as u128 || total as u128 * sum > LIMIT as u128 {
+    let limit = u128::from(LIMIT);
+    if sum > limit || u128::from(total) * sum > limit {
         return Err(Refusal::TooLarge);
     }
     Ok(sum as u64)

@@ -14,7 +14,7 @@ use divider::Divider;
 use largest::LargestRemainder;
 use running::RunningSums;
 
-// Divides, and answers by a number.
+// Divides, and answers by a number, since C has no Result.
 fn answer<D: Divider>(divider: &D, total: u64, weights: &[u64], sheet: &mut [u64]) -> u8
     ensures { Answered total weights.now (D.Divider.meaning divider.now total weights.now) sheet.old sheet.new result }
 {

@@ -1,23 +1,23 @@
--- What the reading of a figure keeps, and where it ends.
-use Rattle.std.proofs.Common.{◌≡◌, ℕ, ◌+◌, ◌-◌, ◌*◌, ◌^◌, ◌<◌, ◌≤◌, Bool, true, false, not, ◌&&◌, eqb, ltb, ◌⊎◌, List, length, get_or, take, IfOk, Err, decimal, Option, Result, sym, refl, ap, ◌∙◌, ⊎_elim, arith}
+-- Digits read one by one, and the figure that they are.
+use Rattle.std.proofs.Common.{◌≡◌, ℕ, ◌+◌, ◌-◌, ◌*◌, ◌^◌, ◌<◌, ◌≤◌, Bool, true, false, not, ◌&&◌, ◌==◌, nat_lt, List, [], ◌∷◌, length, get_or, Some, IfOk, Err, decimal, Option, Result, sym, refl, ap, ◌∙◌, ⊎_elim, arith}
 use Rattle.std.specs.Option.{ok_or}
-use Rattle.std.specs.Char.{digit_value}
+use Rattle.std.specs.Char.{is_ascii_digit, digit_value}
 use Rattle.std.specs.Str.{all_ascii_digits}
-use Rattle.std.specs.Str.Parse.{digits_value}
+use Rattle.std.specs.Str.Parse.{digits_value, digits_value_after}
 use Rattle.std.proofs.lemmas.Fmt.{decimal-digits_value}
-use Rattle.std.proofs.lemmas.Int.Digits.{digits_more, digits_value_more}
-use Rattle.std.proofs.lemmas.Str.Parse.{IsNumeralModel, numerals_by_value, tells_all_ascii_digits, digit_at}
-use Rattle.std.proofs.lemmas.Bool.{cases_lt, cases_Bool, lt-ltb, le-ltb, and_right}
+use Rattle.std.proofs.lemmas.Str.Parse.{IsNumeralModel, numerals_by_value, tells_all_ascii_digits}
+use Rattle.std.proofs.lemmas.Bool.{cases_lt, lt-ltb, le-ltb, and_right}
 use Rattle.std.proofs.lemmas.Bool.Decides.{nat_tests}
+use Rattle.std.specs.List.{AllPass, Any, fold, list_all}
+use Rattle.std.proofs.lemmas.List.Elements.{All-head, All-tail}
+use Rattle.std.proofs.lemmas.List.Folds.{list_all_at}
+use Rattle.std.proofs.lemmas.List.Sums.{list_all-from_AllPass}
 use Rattle.figures.specs.declared.refusal.Refusal.{Refusal}
 use Rattle.figures.specs.declared.refusal.Refusal.TheVariants.{NotAFigure, OutOfRange}
 use Rattle.figures.specs.Figure.{spelled, figure, fitting, appended}
 
-own : IsNumeralModel (λ ds. all_ascii_digits ds ≡ true) (digits_value 10)
-own = numerals_by_value (λ ds. all_ascii_digits ds ≡ true) tells_all_ascii_digits
-
-digit_is : (c : ℕ) → 48 ≤ c → c ≤ 57 → digit_value c ≡ c - 48
-digit_is c l h = grind (arith, nat_tests)
+digit_is : (c : ℕ) → is_ascii_digit c ≡ true → digit_value c ≡ c - 48
+digit_is c e = grind (arith, nat_tests)
 
 fitting_more : (n d : ℕ) → appended (fitting n) d ≡ fitting (n * 10 + d)
 fitting_more n d =
@@ -29,40 +29,41 @@ fitting_more n d =
     rw (e, f) refl)
     (cases_lt n (2 ^ 64))
 
--- one digit more
-pub read_more : (bs : List ℕ) (i : ℕ) (v r : Option ℕ) → i < length bs → 48 ≤ get_or bs i 0 → get_or bs i 0 ≤ 57 → (all_ascii_digits (take i bs) ≡ true) × (v ≡ fitting (digits_value 10 (take i bs))) → r ≡ appended v (get_or bs i 0 - 48) → (all_ascii_digits (take (i + 1) bs) ≡ true) × (r ≡ fitting (digits_value 10 (take (i + 1) bs)))
-read_more bs i v r h l k inv e =
-    let d = digit_is (get_or bs i 0) l k in
-    let m = digits_value_more 10 bs i h in
-    let a = own.from (take (i + 1) bs) (digits_more 10 bs i h (own.to (take i bs) inv.0) (omega arith)) in
-    let f = fitting_more (digits_value 10 (take i bs)) (get_or bs i 0 - 48) in
-    (a, e ∙ ap (λ x. appended x (get_or bs i 0 - 48)) inv.1 ∙ f ∙ ap fitting (ap (λ x. digits_value 10 (take i bs) * 10 + x) (sym d) ∙ sym m))
+-- the number of digits, one by one
+folded : (n : ℕ) (bs : List ℕ) → AllPass is_ascii_digit bs → fold (λ v b. appended v (b - 48)) (fitting n) bs ≡ fitting (digits_value_after 10 n bs)
+folded n [] all = refl
+folded n (b ∷ bs) all =
+    let d = digit_is b (All-head (λ c. is_ascii_digit c ≡ true) b bs all) in
+    rw d (ap (λ v. fold (λ w c. appended w (c - 48)) v bs) (fitting_more n (b - 48)) ∙ folded (n * 10 + (b - 48)) bs (All-tail (λ c. is_ascii_digit c ≡ true) b bs all))
+
+-- two words for one test
+tested : (bs : List ℕ) → all_ascii_digits bs ≡ list_all is_ascii_digit bs
+tested [] = refl
+tested (b ∷ bs) = ap (λ t. is_ascii_digit b && t) (tested bs)
 
 -- a byte that is no digit
-pub no_figure : (bs : List ℕ) (i : ℕ) → i < length bs → (get_or bs i 0 < 48) ⊎ (57 < get_or bs i 0) → Err NotAFigure ≡ figure bs
-no_figure bs i h e =
-    ⊎_elim
-    (λ (a : all_ascii_digits bs ≡ true).
-    let d = digit_at bs i (own.to bs a) h in
-    absurd (⊎_elim (λ (l : get_or bs i 0 < 48). omega arith) (λ (l : 57 < get_or bs i 0). omega arith) e))
-    (λ (a : all_ascii_digits bs ≡ false). let s : spelled bs ≡ false = and_right _ (all_ascii_digits bs) a in rw s refl)
-    (cases_Bool (all_ascii_digits bs))
+pub no_figure : (bs : List ℕ) → Any (λ b. is_ascii_digit b ≡ false) bs → Err NotAFigure ≡ figure bs
+no_figure bs h =
+    let a = tested bs ∙ list_all_at is_ascii_digit bs h.0 h.1 h.2 (ap is_ascii_digit h.3 ∙ h.4) in
+    let s : spelled bs ≡ false = and_right _ (all_ascii_digits bs) a in
+    rw s refl
 
--- the first byte is no 0, or it is the only one
-abbrev First : List ℕ → Type 0
-First bs = ((get_or bs 0 0 ≡ 48) × (length bs ≤ 1)) ⊎ (get_or bs 0 0 ≡ 48 → ⊥)
+own : IsNumeralModel (λ ds. all_ascii_digits ds ≡ true) (digits_value 10)
+own = numerals_by_value (λ ds. all_ascii_digits ds ≡ true) tells_all_ascii_digits
 
-is_spelled : (n c : ℕ) (b : Bool) → 0 < n → ((c ≡ 48) × (n ≤ 1)) ⊎ (c ≡ 48 → ⊥) → b ≡ true → (ltb 0 n && not (eqb c 48 && ltb 1 n) && b) ≡ true
-is_spelled n c b h f e =
-    ⊎_elim (λ (d : (c ≡ 48) × (n ≤ 1)). grind (arith, nat_tests)) (λ (d : c ≡ 48 → ⊥). grind (arith, nat_tests)) f
+-- `spelled`, where the bytes are some, and the first is no 0 unless it is the only one
+spelled_is : (n c : ℕ) (b : Bool) → 0 < n → (c ≡ 48 → n ≡ 1) → (nat_lt 0 n && not (c == 48 && nat_lt 1 n) && b) ≡ b
+spelled_is n c b some first = grind (arith, nat_tests)
 
-pub a_figure : (bs : List ℕ) (v : Option ℕ) (r : Result ℕ Refusal) → 0 < length bs → First bs → all_ascii_digits bs ≡ true → v ≡ fitting (digits_value 10 bs) → r ≡ ok_or v OutOfRange → (r ≡ figure bs) × IfOk r (λ n. bs ≡ decimal n)
-a_figure bs v r some first a e f =
-    let s : spelled bs ≡ true = is_spelled (length bs) (get_or bs 0 0) (all_ascii_digits bs) some first a in
+-- digits alone
+pub a_figure : (bs : List ℕ) (v : Option ℕ) (r : Result ℕ Refusal) → 0 < length bs → (get_or bs 0 0 ≡ 48 → length bs ≡ 1) → AllPass is_ascii_digit bs → v ≡ fold (λ v b. appended v (b - 48)) (Some 0) bs → r ≡ ok_or v OutOfRange → (r ≡ figure bs) × IfOk r (λ n. bs ≡ decimal n)
+a_figure bs v r some first all e f =
+    let a = tested bs ∙ list_all-from_AllPass is_ascii_digit bs all in
+    let s = spelled_is (length bs) (get_or bs 0 0) (all_ascii_digits bs) some first in
+    let n = folded 0 bs all in
     ⊎_elim
     (λ (h : digits_value 10 bs < 2 ^ 64).
     let t = lt-ltb (digits_value 10 bs) (2 ^ 64) h in
-    let one : get_or bs 0 0 ≡ 48 → length bs ≡ 1 = λ z. ⊎_elim (λ (d : (get_or bs 0 0 ≡ 48) × (length bs ≤ 1)). omega arith) (λ (d : get_or bs 0 0 ≡ 48 → ⊥). absurd (d z)) first in
-    rw (f, e, s, t) (refl, sym (decimal-digits_value own bs a some one h)))
-    (λ (h : 2 ^ 64 ≤ digits_value 10 bs). let t = le-ltb (digits_value 10 bs) (2 ^ 64) h in rw (f, e, s, t) (refl, tt))
+    rw (f, e, n, s, a, t) (refl, sym (decimal-digits_value own bs a some first h)))
+    (λ (h : 2 ^ 64 ≤ digits_value 10 bs). let t = le-ltb (digits_value 10 bs) (2 ^ 64) h in rw (f, e, n, s, a, t) (refl, tt))
     (cases_lt (digits_value 10 bs) (2 ^ 64))

@@ -1,7 +1,9 @@
 //! Figures: whole numbers as people type them, in decimal digits with no leading zero.
 #![tactic(auto)]
 
-ghost use Rattle.std.specs.Prelude.{◌≡◌, ◌<◌, IfOk, decimal};
+ghost use Rattle.std.specs.Prelude.{◌≡◌, ◌-◌, false, IfOk, IfErr, decimal};
+ghost use Rattle.std.specs.List.{fold, AllPass, Any};
+ghost use Rattle.std.specs.Char.{is_ascii_digit};
 ghost use Rattle.figures.specs.Figure.{number, figure, appended};
 
 mod refusal;
@@ -13,29 +15,31 @@ impl Refusal {
     pub fn number(self) -> u8
         ensures { result ≡ number self }
     {
-        match self {
-            Refusal::NotAFigure => 5,
-            Refusal::OutOfRange => 6,
-        }
+        self as u8
     }
 }
 
 // A number with one digit more, where it still fits.
 fn append(value: Option<u64>, digit: u8) -> Option<u64>
-    requires { digit < 10 }
     ensures { result ≡ appended value digit }
 {
-    let digit = digit as u64;
-    match value {
-        Some(n) => {
-            if n <= (u64::MAX - digit) / 10 {
-                Some(n * 10 + digit)
-            } else {
-                None
-            }
+    value?.checked_mul(10)?.checked_add(u64::from(digit))
+}
+
+// The number that digits spell, where it still fits, if all bytes are digits.
+fn value(bytes: &[u8]) -> Result<Option<u64>, Refusal>
+    ensures digits { IfOk result (λ _. AllPass is_ascii_digit bytes.now) }
+    ensures value { IfOk result (λ v. v ≡ fold (λ v b. appended v (b - 48)) (Some 0) bytes.now) }
+    ensures refusal { IfErr result (λ e. e ≡ Refusal.NotAFigure) }
+    ensures other { IfErr result (λ _. Any (λ b. is_ascii_digit b ≡ false) bytes.now) }
+{
+    bytes.iter().try_fold(Some(0), |value, byte| {
+        if byte.is_ascii_digit() {
+            Ok(append(value, *byte - b'0'))
+        } else {
+            Err(Refusal::NotAFigure)
         }
-        None => None,
-    }
+    })
 }
 
 /// Reads a figure.
@@ -47,15 +51,8 @@ pub fn read(bytes: &[u8]) -> Result<u64, Refusal>
     ensures reads { result ≡ figure bytes.now }
     ensures written { IfOk result (λ n. bytes.now ≡ decimal n) }
 {
-    if bytes.is_empty() || (bytes[0] == b'0' && bytes.len() > 1) {
+    if matches!(bytes, [] | [b'0', _, ..]) {
         return Err(Refusal::NotAFigure);
     }
-    let mut value = Some(0);
-    for byte in bytes {
-        if *byte < b'0' || *byte > b'9' {
-            return Err(Refusal::NotAFigure);
-        }
-        value = append(value, *byte - b'0');
-    }
-    value.ok_or(Refusal::OutOfRange)
+    value(bytes)?.ok_or(Refusal::OutOfRange)
 }

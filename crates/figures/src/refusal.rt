@@ -4,7 +4,7 @@
 #[derive(Clone, Copy, PartialEq, Eq, Debug)]
 pub enum Refusal {
     /// 5: not digits only, none at all, or a leading 0 that is not the only digit.
-    NotAFigure,
+    NotAFigure = 5,
     /// 6: above 2^64 - 1.
-    OutOfRange,
+    OutOfRange = 6,
 }

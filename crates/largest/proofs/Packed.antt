@@ -1,20 +1,26 @@
 -- The packed sheet, and the turns of the loops over it.
-use Rattle.std.proofs.Common.{◌≡◌, ℕ, zero, suc, ◌+◌, ◌-◌, ◌*◌, ◌/◌, ◌%◌, ◌^◌, ◌<◌, ◌≤◌, max, Bool, true, false, cond, ◌&&◌, eqb, ltb, leb, ◌⊎◌, List, [], ◌∷◌, ◌++◌, map, length, get_or, take, drop, set, None, sum_by, sum, sym, refl, ap, ◌∙◌, inl, inr, ⊎_elim, mod-lt, mul_comm, add-mul, lt_of_mul-lt-mul_right, mul-add, add-one, arith}
+use Rattle.std.proofs.Common.{◌≡◌, ℕ, zero, suc, ◌+◌, ◌-◌, ◌*◌, ◌/◌, ◌%◌, ◌^◌, ◌<◌, ◌≤◌, max, Bool, true, false, cond, ◌&&◌, eqb, ltb, leb, ◌⊎◌, List, [], ◌∷◌, map, length, get_or, take, sum_by, sum, sym, refl, ap, ◌∙◌, inl, inr, ⊎_elim, mod-lt, mul_comm, add-mul, lt_of_mul-lt-mul_right, mul-add, add-one, arith}
 use native.Mathlib.Nat.{two-pow-succ}
 use lib.Bits.{bit_and}
 use Rattle.std.proofs.lemmas.List.Sums.{sum_by-cons, sum_by_more, sum_by-take-le, get_or-le-sum_by}
-use Rattle.std.proofs.lemmas.List.{take_more_set, map_more, at_drop_more, at_drop_all, append_assoc, append-nil, drop-set-lt, take_all}
 use Rattle.std.proofs.lemmas.Nat.{mul-le, div_below, mod-mul-add, and_mask, pow-add, pow_below}
 use Rattle.std.proofs.lemmas.Bool.{cases_order, cases_lt, le-leb, lt-leb}
 use Rattle.std.proofs.lemmas.Bool.Decides.{nat_tests}
-use Rattle.divider.specs.Questions.{Passes, asked}
+use Rattle.divider.specs.Questions.{limit, Passes}
 use Rattle.divider.specs.Shares.{whole, rest}
-use Rattle.divider.proofs.Asking.{passed}
 use Rattle.divider.proofs.Parts.{wholes_le}
 use Rattle.largest.specs.Largest.{left_over, above, by_remainders}
-use Rattle.largest.specs.Packing.{packed, reached, at_level, raised, share_of, Divides, Ready}
+use Rattle.largest.specs.Packing.{packed, reached, at_level, raised, share_of, Divides}
 use Rattle.largest.specs.Counts.{count_le}
+use Rattle.largest.specs.declared.packing.Packing.{Packing}
 use Rattle.largest.specs.Remainders.{from, from_none, from_zero, enough, one_more, given, given_is, Mark}
+
+-- all is the sum of the weights, the questions passed, and the packed numbers fit.
+pub record Ready (total all unit : ℕ) (weights : List ℕ) : Type 0 where
+  pub is_sum : all ≡ sum weights
+  pub passes : Passes total weights
+  pub over : total < unit
+  pub fits : all * unit < 2 ^ 64
 
 pub whole_le : (t s w : ℕ) → 0 < s → w ≤ s → whole t s w ≤ t
 whole_le t s w h l =
@@ -162,56 +168,19 @@ module _ (t s u : ℕ) (ws : List ℕ) (r : Ready t s u ws) where
         let b : sum_by (whole t s) ws ≤ t = rw r.is_sum (wholes_le t ws r.passes) in
         (omega arith, omega arith)
 
--- a turn that writes f of a weight at its place
-pub written_more : (f : ℕ → ℕ) (ws old : List ℕ) (i y : ℕ) → i < length ws → length old ≡ length ws → y ≡ f (get_or ws i 0) → take i old ≡ map f (take i ws) → take (i + 1) (set old i y) ≡ map f (take (i + 1) ws)
-written_more f ws old i y h l e inv =
-    let h' : i < length old = omega arith in
-    take_more_set old i y h' ∙ ap (λ x. x ++ (y ∷ [])) inv ∙ ap (λ z. map f (take i ws) ++ (z ∷ [])) e ∙ sym (map_more f ws i 0 h)
-
 -- fewer reach a larger number
 pub reached_falls : (u a : ℕ) (xs : List ℕ) → reached u (a + 1) xs ≤ reached u a xs
 reached_falls u a xs =
     let m = add-mul a 1 u in
     count_le (λ x. leb ((a + 1) * u) x) (λ x. leb (a * u) x) (λ x b. grind (arith, nat_tests)) xs
 
--- a loop that turns a list into F of it, place by place: a turn, and the end
-pub turn : (F G : List ℕ → List ℕ) (y : ℕ) (xs ys : List ℕ) (i : ℕ) → i < length xs → F (get_or xs i 0 ∷ drop (i + 1) xs) ≡ y ∷ G (drop (i + 1) xs) → take i xs ++ F (drop i xs) ≡ ys → take (i + 1) (set xs i y) ++ G (drop (i + 1) (set xs i y)) ≡ ys
-turn F G y xs ys i h e inv =
-    let p = take_more_set xs i y h in
-    let l : i < i + 1 = omega arith in
-    let k = drop-set-lt (i + 1) xs i y l in
-    let d = at_drop_more F xs i 0 h in
-    let q = append_assoc (take i xs) (y ∷ []) (G (drop (i + 1) xs)) in
-    cc
-
-pub turned : (F : List ℕ → List ℕ) (xs ys : List ℕ) (i : ℕ) → length xs ≤ i → F [] ≡ [] → take i xs ++ F (drop i xs) ≡ ys → xs ≡ ys
-turned F xs ys i h e inv =
-    let t = take_all i xs h in
-    let d = at_drop_all F xs i h in
-    let a = append-nil xs in
-    cc
-
--- the number that a turn writes, and the units that it leaves
-pub raised_turn : (u v n x : ℕ) (xs : List ℕ) → v ≤ x → x < v + u → (n ≡ 0 → ⊥) → raised u v n (x ∷ xs) ≡ (x + u) ∷ raised u v (n - 1) xs
-raised_turn u v n x xs l h k =
-    let c : ◌≡◌ {A = ℕ} (cond (at_level u v x && ltb 0 n) u 0) u = grind (arith, nat_tests) in
-    let d : n - cond (at_level u v x) 1 0 ≡ n - 1 = grind (arith, nat_tests) in
-    rw (c, d)
-
-pub kept_turn : (u v n x : ℕ) (xs : List ℕ) → ((v ≤ x) × (v + u ≤ x)) ⊎ (x < v) → raised u v n (x ∷ xs) ≡ x ∷ raised u v n xs
-kept_turn u v n x xs e =
-    let b : at_level u v x ≡ false = ⊎_elim (λ (d : (v ≤ x) × (v + u ≤ x)). grind (arith, nat_tests)) (λ (d : x < v). grind (arith, nat_tests)) e in
-    let z : x + 0 ≡ x = omega arith in
-    let y : n - 0 ≡ n = omega arith in
-    rw (b, z, y)
-
 -- no spare unit raises nothing
-pub raised_none : (u v : ℕ) (xs : List ℕ) → raised u v 0 xs ≡ xs
-raised_none u v [] = refl
-raised_none u v (x ∷ xs) =
-    let e : x + cond (at_level u v x && ltb 0 0) u 0 ≡ x = grind (arith, nat_tests) in
-    let f : 0 - cond (at_level u v x) 1 0 ≡ 0 = omega arith in
-    rw (e, f, raised_none u v xs)
+pub raised_none : (u v n : ℕ) (xs : List ℕ) → n ≡ 0 → raised u v n xs ≡ xs
+raised_none u v n [] e = refl
+raised_none u v n (x ∷ xs) e =
+    let c : at_level u v x && ltb 0 n ≡ false = grind (arith, nat_tests) in
+    let z : x + 0 ≡ x = omega arith in
+    rw (c, z) (ap (λ ys. x ∷ ys) (raised_none u v (n - cond (at_level u v x) 1 0) xs (omega arith)))
 
 -- where the bisection ends, the number below the upper bound is the mark
 pub mark_below : (u : ℕ) (xs : List ℕ) (left served low high : ℕ) → low < high → left ≤ reached u low xs → served ≡ reached u high xs → served ≤ left → (left ≤ served) ⊎ (high - low ≤ 1) → Divides u xs left (high - 1) (left - served)
@@ -230,32 +199,33 @@ pub mask_is : (u x : ℕ) → (k : ℕ) × (u ≡ 2 ^ k) → bit_and x (u - 1) �
 mask_is u x p = ap (λ v. bit_and x (v - 1)) p.1 ∙ and_mask x p.0 ∙ ap (λ v. x % v) (sym p.1)
 
 -- the packed numbers fit under a power of two just above the total
-unit_fits : (t u : ℕ) (ws : List ℕ) → Passes t ws → (k : ℕ) → u ≡ 2 ^ k → u / 2 < max 1 (t + 1) → sum ws * u < 2 ^ 64
-unit_fits t u ws p zero f h = let d : sum ws * u ≡ sum ws * 1 = ap (λ n. sum ws * n) f in omega (arith, p.small)
-unit_fits t u ws p (suc k) f h =
-    let d = two-pow-succ k in
-    let m = mul-le (sum ws) u (sum ws) (t + t) (omega arith) (omega arith) in
-    let a = mul-add (sum ws) t t in
-    let c = mul_comm (sum ws) t in
-    omega (arith, p.fits)
+pub unit_fits : (t s u : ℕ) → s ≤ limit → t * s ≤ limit → (k : ℕ) × (u ≡ 2 ^ k) → u / 2 < max 1 (t + 1) → s * u < 2 ^ 64
+unit_fits t s u small fits p h = go p.0 p.1
+  where
+    go : (k : ℕ) → u ≡ 2 ^ k → s * u < 2 ^ 64
+    go zero f = let d : s * u ≡ s * 1 = ap (λ n. s * n) f in omega arith
+    go (suc k) f =
+        let d = two-pow-succ k in
+        let m = mul-le s u s (t + t) (omega arith) (omega arith) in
+        let a = mul-add s t t in
+        let c = mul_comm s t in
+        omega arith
 
-pub ready : (t s u n : ℕ) (ws : List ℕ) → (asked t ws n ≡ None) × (s ≡ sum ws) → (k : ℕ) × (u ≡ 2 ^ k) → t + 1 ≤ u → u / 2 < max 1 (t + 1) → Ready t s u ws
-ready t s u n ws w k l h =
-    let p = passed t ws n w.0 in
-    record { is_sum = w.1; passes = p; over = omega arith; fits = rw w.1 (unit_fits t u ws p k.0 k.1 h) }
-
--- above every packed number there is room for two units more
-pub room : (s u a : ℕ) → a < s → s * u < 2 ^ 64 → (k : ℕ) × (u ≡ 2 ^ k) → u < 2 ^ 64 → a * u + u + u ≤ 2 ^ 64
-room s u a h f p l =
+-- above every packed number there is room for a unit more
+pub room : (s u : ℕ) → s * u < 2 ^ 64 → (k : ℕ) × (u ≡ 2 ^ k) → u < 2 ^ 64 → s * u + u ≤ 2 ^ 64
+room s u f p l =
     let k = p.0 in
     ⊎_elim
     (λ (b : k < 65).
     let e : 2 ^ (64 - k) * u ≡ 2 ^ 64 = ap (λ n. 2 ^ (64 - k) * n) p.1 ∙ sym (pow-add 2 (64 - k) k) ∙ ap (λ n. 2 ^ n) (let z : 64 - k + k ≡ 64 = omega arith in z) in
-    let m = mul-le (a + 1) u s u (omega arith) (omega arith) in
-    let q : (a + 1) * u < 2 ^ (64 - k) * u = omega arith in
-    let r : a + 2 ≤ 2 ^ (64 - k) = omega (arith, lt_of_mul-lt-mul_right u q) in
-    let n = mul-le (a + 2) u (2 ^ (64 - k)) u r (omega arith) in
-    let o = add-mul a 2 u in
+    let q : s * u < 2 ^ (64 - k) * u = omega arith in
+    let r : s + 1 ≤ 2 ^ (64 - k) = omega (arith, lt_of_mul-lt-mul_right u q) in
+    let n = mul-le (s + 1) u (2 ^ (64 - k)) u r (omega arith) in
+    let o = add-mul s 1 u in
     omega arith)
     (λ (b : 65 ≤ k). let g = pow_below 64 k (omega arith) in absurd (omega (arith, p.1)))
     (cases_lt k 65)
+
+-- a packing is ready for weights that add up to its sum and pass with its total
+pub ready : (p : Packing) (ws : List ℕ) → p.sum ≡ sum ws → Passes p.total ws → Ready p.total p.sum p.unit ws
+ready p ws e q = record { is_sum = e; passes = q; over = p.over; fits = omega (arith, p.room, p.over) }

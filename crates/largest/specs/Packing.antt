@@ -1,6 +1,5 @@
 -- What the sheet holds on the way to the shares.
-use Rattle.std.specs.Prelude.{◌≡◌, ℕ, ◌+◌, ◌-◌, ◌*◌, ◌%◌, ◌^◌, ◌<◌, ◌≤◌, Bool, cond, ◌&&◌, leb, List, [], ◌∷◌, sum, count_by, nat_le, nat_lt}
-use Rattle.divider.specs.Questions.{Passes}
+use Rattle.std.specs.Prelude.{◌≡◌, ℕ, ◌+◌, ◌-◌, ◌*◌, ◌%◌, ◌≤◌, Bool, cond, ◌&&◌, leb, List, [], ◌∷◌, count_by, nat_le, nat_lt}
 use Rattle.divider.specs.Shares.{whole, rest}
 
 -- A weight's remainder and whole part in one number.
@@ -30,10 +29,3 @@ pub record Divides (unit : ℕ) (sheet : List ℕ) (left mark spare : ℕ) : Typ
   pub enough : left ≤ reached unit mark sheet
   pub served : reached unit (mark + 1) sheet ≤ left
   pub remains : spare ≡ left - reached unit (mark + 1) sheet
-
--- all is the sum of the weights, the questions passed, and the packed numbers fit.
-pub record Ready (total all unit : ℕ) (weights : List ℕ) : Type 0 where
-  pub is_sum : all ≡ sum weights
-  pub passes : Passes total weights
-  pub over : total < unit
-  pub fits : all * unit < 2 ^ 64

@@ -8,7 +8,8 @@ use Rattle.std.proofs.lemmas.Fmt.{decimal-digits_value}
 use Rattle.std.proofs.ByRecursion.{All-from_get_or}
 use Rattle.std.proofs.lemmas.List.{drop_more, drop_all, take_at}
 use Rattle.std.proofs.lemmas.Str.Parse.{IsNumeralModel, numerals_by_value, tells_all_ascii_digits, not_in_digits}
-use Rattle.std.proofs.lemmas.Bool.{cases_eq, cond-true, eq-eqb, ne_eqb, eqb-true, eqb-false, and_parts, and_from, not-true, ltb-true, ltb-false}
+use Rattle.std.proofs.lemmas.Bool.{cases_eq, cond-true, eqb-true, eqb-false, and_parts, leb-true, not-true}
+use Rattle.std.proofs.lemmas.Bool.Decides.{nat_tests}
 use Rattle.units.specs.Ranges.{in_range}
 use Rattle.units.specs.declared.ranges.Letter.{Letter}
 use Rattle.units.specs.declared.ranges.Letter.TheVariants.{Header, Customer, Expense, Credit, Shift, Grant, Transfer}
@@ -19,17 +20,14 @@ use Rattle.book.specs.declared.figures.Posting.TheVariants as posting
 use Rattle.rows.specs.Rows.{parted, joined}
 use Rattle.rows.proofs.Parts.{parted_joined, joined_parted}
 use Rattle.lines.specs.declared.fault.Fault.{Fault}
-use Rattle.lines.specs.declared.fault.Refusal.{Refusal}
-use Rattle.lines.specs.declared.forms.Kind.{Kind}
-use Rattle.lines.specs.declared.forms.Kind.TheVariants.{Figure, Name, Pool, OtherPool}
-use Rattle.lines.specs.Answers.{told, at_field, or_else}
-use Rattle.lines.specs.Forms.{field, byte_of, letter_at, letter_of, count, kind}
+use Rattle.lines.specs.Forms.{Kind, Figure, Name, Pool, OtherPool, field, byte_of, letter_at, letter_of, count, kind}
+use Rattle.lines.specs.Answers.{told, or_else}
 use Rattle.lines.specs.Lines.{Contents, header, customer, cost, grant, transfer, letter, held, fields, written, made, faults, fault_in, line_of, read_fields, ranged, Writes}
-use Rattle.lines.specs.Questions.{name_byte, name_bytes, a_pool, typed, passes, asks, asked, first_fault}
+use Rattle.lines.specs.Questions.{name_byte, name_bytes, a_pool, typed, passes, asks, asked}
 use Rattle.lines.specs.Writing.{WritesFields}
 use Rattle.lines.proofs.Fields.{value_of, in_range_below, pool_ascii, one_byte, one_letter}
 use Rattle.lines.proofs.Holding.{asks_passes, pool_passed, letter_first}
-use Rattle.lines.proofs.Walking.{read_through, some_fields}
+use Rattle.lines.proofs.Walking.{clean_from, read_through}
 
 own : IsNumeralModel (λ ds. all_ascii_digits ds ≡ true) (digits_value 10)
 own = numerals_by_value (λ ds. all_ascii_digits ds ≡ true) tells_all_ascii_digits
@@ -37,21 +35,13 @@ own = numerals_by_value (λ ds. all_ascii_digits ds ≡ true) tells_all_ascii_di
 -- what a figure's bytes are
 module _ (f : List ℕ) (t : a_figure f ≡ true) where
   figure_digits : all_ascii_digits f ≡ true
-  figure_digits = (and_parts (ltb 0 (length f) && not (eqb (get_or f 0 0) 48 && ltb 1 (length f))) (all_ascii_digits f) t).1
+  figure_digits = grind (arith, nat_tests)
 
   figure_some : 0 < length f
-  figure_some =
-      let a = (and_parts (ltb 0 (length f) && not (eqb (get_or f 0 0) 48 && ltb 1 (length f))) (all_ascii_digits f) t).0 in
-      ltb-true 0 (length f) (and_parts (ltb 0 (length f)) (not (eqb (get_or f 0 0) 48 && ltb 1 (length f))) a).0
+  figure_some = grind (arith, nat_tests)
 
   figure_zero : get_or f 0 0 ≡ 48 → length f ≡ 1
-  figure_zero z =
-      let a = (and_parts (ltb 0 (length f) && not (eqb (get_or f 0 0) 48 && ltb 1 (length f))) (all_ascii_digits f) t).0 in
-      let b = not-true (eqb (get_or f 0 0) 48 && ltb 1 (length f)) (and_parts (ltb 0 (length f)) (not (eqb (get_or f 0 0) 48 && ltb 1 (length f))) a).1 in
-      let c : ltb 1 (length f) ≡ false = let e = eq-eqb (get_or f 0 0) 48 z in rw e at b in
-      let d = ltb-false 1 (length f) c in
-      let s = figure_some in
-      omega arith
+  figure_zero z = grind (arith, nat_tests)
 
   figure_back : (l : Letter) (k : ℕ) → in_range l k (digits_value 10 f) ≡ true → decimal (digits_value 10 f) ≡ f
   figure_back l k r = decimal-digits_value own f figure_digits figure_some figure_zero (in_range_below l k (digits_value 10 f) r)
@@ -63,41 +53,16 @@ pool_back f p =
     one_letter f (eqb-true (length f) 1 parts.0) (omega arith)
 
 letter_byte : (b : ℕ) (l : Letter) → letter_at b ≡ Some l → byte_of l ≡ b
-letter_byte b l e =
-    ⊎_elim
-    (λ (h : b ≡ 72). let s = rw (eq-eqb b 72 h) at e in let same : Header ≡ l = cc in ap byte_of (sym same) ∙ sym h)
-    (λ (h : b ≡ 72 → ⊥). let n72 = ne_eqb b 72 h in ⊎_elim
-    (λ (h : b ≡ 67). let s = rw (n72, eq-eqb b 67 h) at e in let same : Customer ≡ l = cc in ap byte_of (sym same) ∙ sym h)
-    (λ (h : b ≡ 67 → ⊥). let n67 = ne_eqb b 67 h in ⊎_elim
-    (λ (h : b ≡ 69). let s = rw (n72, n67, eq-eqb b 69 h) at e in let same : Expense ≡ l = cc in ap byte_of (sym same) ∙ sym h)
-    (λ (h : b ≡ 69 → ⊥). let n69 = ne_eqb b 69 h in ⊎_elim
-    (λ (h : b ≡ 82). let s = rw (n72, n67, n69, eq-eqb b 82 h) at e in let same : Credit ≡ l = cc in ap byte_of (sym same) ∙ sym h)
-    (λ (h : b ≡ 82 → ⊥). let n82 = ne_eqb b 82 h in ⊎_elim
-    (λ (h : b ≡ 65). let s = rw (n72, n67, n69, n82, eq-eqb b 65 h) at e in let same : Shift ≡ l = cc in ap byte_of (sym same) ∙ sym h)
-    (λ (h : b ≡ 65 → ⊥). let n65 = ne_eqb b 65 h in ⊎_elim
-    (λ (h : b ≡ 71). let s = rw (n72, n67, n69, n82, n65, eq-eqb b 71 h) at e in let same : Grant ≡ l = cc in ap byte_of (sym same) ∙ sym h)
-    (λ (h : b ≡ 71 → ⊥). let n71 = ne_eqb b 71 h in ⊎_elim
-    (λ (h : b ≡ 84). let s = rw (n72, n67, n69, n82, n65, n71, eq-eqb b 84 h) at e in let same : Transfer ≡ l = cc in ap byte_of (sym same) ∙ sym h)
-    (λ (h : b ≡ 84 → ⊥). let n84 = ne_eqb b 84 h in (let bad = rw (n72, n67, n69, n82, n65, n71, n84) at e in let z : ◌≡◌ {A = ℕ} 0 1 = cc in absurd (omega arith)))
-    (cases_eq b 84))
-    (cases_eq b 71))
-    (cases_eq b 65))
-    (cases_eq b 82))
-    (cases_eq b 69))
-    (cases_eq b 67))
-    (cases_eq b 72)
+letter_byte b Header e = grind (arith, nat_tests)
+letter_byte b Customer e = grind (arith, nat_tests)
+letter_byte b Expense e = grind (arith, nat_tests)
+letter_byte b Credit e = grind (arith, nat_tests)
+letter_byte b Shift e = grind (arith, nat_tests)
+letter_byte b Grant e = grind (arith, nat_tests)
+letter_byte b Transfer e = grind (arith, nat_tests)
 
 letter_back : (f : List ℕ) (l : Letter) → letter_of f ≡ Some l → byte_of l ∷ [] ≡ f
-letter_back f l e =
-    ⊎_elim
-    (λ (h : length f ≡ 1).
-    let at = rw (eq-eqb (length f) 1 h) at e in
-    ap (λ b. b ∷ []) (letter_byte (get_or f 0 0) l at) ∙ sym (one_byte f h))
-    (λ (h : length f ≡ 1 → ⊥).
-    let bad = rw (ne_eqb (length f) 1 h) at e in
-    let z : ◌≡◌ {A = ℕ} 0 1 = cc in
-    absurd (omega arith))
-    (cases_eq (length f) 1)
+letter_back f l e = grind (arith, nat_tests, letter_byte, one_byte)
 
 -- fields from a number on, one by one
 abbrev spread : ℕ → ℕ → (ℕ → List ℕ) → List (List ℕ)
@@ -116,80 +81,45 @@ all_fields fs n e = spread_is fs n 1 (omega arith) (omega arith)
 
 -- the fields of what fields are read as
 module _ (l : Letter) (fs : List (List ℕ)) (clean : (k : ℕ) → 2 ≤ k → k ≤ count l → asked l fs k ≡ None) where
-  figure_field : (k : ℕ) → 2 ≤ k → k ≤ count l → kind l k ≡ Figure → decimal (digits_value 10 (field fs k)) ≡ field fs k
-  figure_field k a b e =
-      let p = asks_passes (kind l k) l k (field fs k) (field fs 3) (clean k a b) in
-      figure_back (field fs k) (subst (λ κ. typed κ (field fs k) ≡ true) e p.0) l k (subst (λ κ. passes κ l k (field fs k) (field fs 3) ≡ true) e p.1)
+  clean_at : (k : ℕ) → (leb 2 k && leb k (count l)) ≡ true → (typed (kind l k) (field fs k) ≡ true) × (passes (kind l k) l k (field fs k) (field fs 3) ≡ true)
+  clean_at k t =
+      let within = and_parts (leb 2 k) (leb k (count l)) t in
+      asks_passes (kind l k) l k (field fs k) (field fs 3) (clean k (leb-true 2 k within.0) (leb-true k (count l) within.1))
 
-  pool_field : (k : ℕ) → 2 ≤ k → k ≤ count l → (kind l k ≡ Pool) ⊎ (kind l k ≡ OtherPool) → encode (get_or (field fs k) 0 0) ≡ field fs k
-  pool_field k a b e = pool_back (field fs k) (pool_passed (kind l k) l k (field fs k) (field fs 3) e (clean k a b))
+  ranged_field : (k : ℕ) → (leb 2 k && leb k (count l)) ≡ true → kind l k ≡ Figure → in_range l k (digits_value 10 (field fs k)) ≡ true
+  ranged_field k t e = subst (λ κ. passes κ l k (field fs k) (field fs 3) ≡ true) e (clean_at k t).1
+
+  figure_field : (k : ℕ) → (leb 2 k && leb k (count l)) ≡ true → kind l k ≡ Figure → decimal (digits_value 10 (field fs k)) ≡ field fs k
+  figure_field k t e = figure_back (field fs k) (subst (λ κ. typed κ (field fs k) ≡ true) e (clean_at k t).0) l k (ranged_field k t e)
+
+  pool_field : (k : ℕ) → (leb 2 k && leb k (count l)) ≡ true → (kind l k ≡ Pool) ⊎ (kind l k ≡ OtherPool) → encode (get_or (field fs k) 0 0) ≡ field fs k
+  pool_field k t e = pool_back (field fs k) (pool_passed (kind l k) l k (field fs k) (field fs 3) e (clean_at k t).1)
 
 fields_made : (l : Letter) (fs : List (List ℕ)) → letter_of (field fs 1) ≡ Some l → length fs ≡ count l → ((k : ℕ) → 2 ≤ k → k ≤ count l → asked l fs k ≡ None) → (letter (made (field fs) l) ≡ l) × (fields (made (field fs) l) ≡ fs)
 fields_made Header fs known n clean =
-    let f1 = letter_back (field fs 1) Header known in
-    let f2 = figure_field Header fs clean 2 (omega arith) (omega arith) refl in
-    let f3 = figure_field Header fs clean 3 (omega arith) (omega arith) refl in
-    (refl, (λ i. f1 i ∷ f2 i ∷ f3 i ∷ []) ∙ all_fields fs 3 n)
+    let d = figure_field Header fs clean in
+    (refl, rw (letter_back (field fs 1) Header known, d 2 refl refl, d 3 refl refl) (all_fields fs 3 n))
 fields_made Customer fs known n clean =
-    let f1 = letter_back (field fs 1) Customer known in
-    let f2 = figure_field Customer fs clean 2 (omega arith) (omega arith) refl in
-    let f4 = figure_field Customer fs clean 4 (omega arith) (omega arith) refl in
-    let f5 = figure_field Customer fs clean 5 (omega arith) (omega arith) refl in
-    let f6 = figure_field Customer fs clean 6 (omega arith) (omega arith) refl in
-    let f7 = figure_field Customer fs clean 7 (omega arith) (omega arith) refl in
-    let f8 = figure_field Customer fs clean 8 (omega arith) (omega arith) refl in
-    let f9 = figure_field Customer fs clean 9 (omega arith) (omega arith) refl in
-    let f10 = figure_field Customer fs clean 10 (omega arith) (omega arith) refl in
-    let f11 = figure_field Customer fs clean 11 (omega arith) (omega arith) refl in
-    (refl, (λ i. f1 i ∷ f2 i ∷ field fs 3 ∷ f4 i ∷ f5 i ∷ f6 i ∷ f7 i ∷ f8 i ∷ f9 i ∷ f10 i ∷ f11 i ∷ []) ∙ all_fields fs 11 n)
+    let d = figure_field Customer fs clean in
+    (refl, rw (letter_back (field fs 1) Customer known, d 2 refl refl, d 4 refl refl, d 5 refl refl, d 6 refl refl, d 7 refl refl, d 8 refl refl, d 9 refl refl, d 10 refl refl, d 11 refl refl) (all_fields fs 11 n))
 fields_made Expense fs known n clean =
-    let f1 = letter_back (field fs 1) Expense known in
-    let f2 = figure_field Expense fs clean 2 (omega arith) (omega arith) refl in
-    let f3 = pool_field Expense fs clean 3 (omega arith) (omega arith) (inl refl) in
-    let f4 = figure_field Expense fs clean 4 (omega arith) (omega arith) refl in
-    (refl, (λ i. f1 i ∷ f2 i ∷ f3 i ∷ f4 i ∷ []) ∙ all_fields fs 4 n)
+    let d = figure_field Expense fs clean in
+    let p = pool_field Expense fs clean in
+    (refl, rw (letter_back (field fs 1) Expense known, d 2 refl refl, p 3 refl (inl refl), d 4 refl refl) (all_fields fs 4 n))
 fields_made Credit fs known n clean =
-    let f1 = letter_back (field fs 1) Credit known in
-    let f2 = figure_field Credit fs clean 2 (omega arith) (omega arith) refl in
-    let f3 = pool_field Credit fs clean 3 (omega arith) (omega arith) (inl refl) in
-    let f4 = figure_field Credit fs clean 4 (omega arith) (omega arith) refl in
-    (refl, (λ i. f1 i ∷ f2 i ∷ f3 i ∷ f4 i ∷ []) ∙ all_fields fs 4 n)
+    let d = figure_field Credit fs clean in
+    let p = pool_field Credit fs clean in
+    (refl, rw (letter_back (field fs 1) Credit known, d 2 refl refl, p 3 refl (inl refl), d 4 refl refl) (all_fields fs 4 n))
 fields_made Shift fs known n clean =
-    let f1 = letter_back (field fs 1) Shift known in
-    let f2 = figure_field Shift fs clean 2 (omega arith) (omega arith) refl in
-    let f3 = pool_field Shift fs clean 3 (omega arith) (omega arith) (inl refl) in
-    let f4 = pool_field Shift fs clean 4 (omega arith) (omega arith) (inr refl) in
-    let f5 = figure_field Shift fs clean 5 (omega arith) (omega arith) refl in
-    (refl, (λ i. f1 i ∷ f2 i ∷ f3 i ∷ f4 i ∷ f5 i ∷ []) ∙ all_fields fs 5 n)
+    let d = figure_field Shift fs clean in
+    let p = pool_field Shift fs clean in
+    (refl, rw (letter_back (field fs 1) Shift known, d 2 refl refl, p 3 refl (inl refl), p 4 refl (inr refl), d 5 refl refl) (all_fields fs 5 n))
 fields_made Grant fs known n clean =
-    let f1 = letter_back (field fs 1) Grant known in
-    let f2 = figure_field Grant fs clean 2 (omega arith) (omega arith) refl in
-    let f3 = figure_field Grant fs clean 3 (omega arith) (omega arith) refl in
-    (refl, (λ i. f1 i ∷ f2 i ∷ f3 i ∷ []) ∙ all_fields fs 3 n)
+    let d = figure_field Grant fs clean in
+    (refl, rw (letter_back (field fs 1) Grant known, d 2 refl refl, d 3 refl refl) (all_fields fs 3 n))
 fields_made Transfer fs known n clean =
-    let f1 = letter_back (field fs 1) Transfer known in
-    let f2 = figure_field Transfer fs clean 2 (omega arith) (omega arith) refl in
-    let f3 = figure_field Transfer fs clean 3 (omega arith) (omega arith) refl in
-    let f4 = figure_field Transfer fs clean 4 (omega arith) (omega arith) refl in
-    (refl, (λ i. f1 i ∷ f2 i ∷ f3 i ∷ f4 i ∷ []) ∙ all_fields fs 4 n)
-
--- neither of two faults
-or_none : (k : ℕ) (o : Option Refusal) (p : Option Fault) → or_else (at_field k o) p ≡ None → (o ≡ None) × (p ≡ None)
-or_none k None p e = (refl, e)
-or_none k (Some r) p e = let z : ◌≡◌ {A = ℕ} 0 1 = cc in absurd (omega arith)
-
--- a line with no fault passes at every field
-first_inv : (l : Letter) (fs : List (List ℕ)) (k n : ℕ) → first_fault l fs k n ≡ None → (j : ℕ) → k ≤ j → j < k + n → asked l fs j ≡ None
-first_inv l fs k zero e j a b = absurd (omega arith)
-first_inv l fs k (suc n) e j a b =
-    let parts = or_none k (asked l fs k) (first_fault l fs (k + 1) n) e in
-    ⊎_elim
-    (λ (s : k ≡ j). subst (λ m. asked l fs m ≡ None) s parts.0)
-    (λ (s : k ≡ j → ⊥). first_inv l fs (k + 1) n parts.1 j (omega arith) (omega arith))
-    (cases_eq k j)
-
-pub clean_from : (l : Letter) (fs : List (List ℕ)) → faults l fs ≡ None → (k : ℕ) → 2 ≤ k → k ≤ count l → asked l fs k ≡ None
-clean_from l fs e k a b = let some = some_fields l fs in first_inv l fs 2 (count l - 1) e k a (omega arith)
+    let d = figure_field Transfer fs clean in
+    (refl, rw (letter_back (field fs 1) Transfer known, d 2 refl refl, d 3 refl refl, d 4 refl refl) (all_fields fs 4 n))
 
 -- bytes that are read are written again
 pub written_back : (bytes : List ℕ) (l : Letter) (c : Contents) → c ≡ made (field (parted 44 bytes)) l → letter_of (field (parted 44 bytes) 1) ≡ Some l → length (parted 44 bytes) ≡ count l → faults l (parted 44 bytes) ≡ None → (fault_in c ≡ None) × (written c ≡ bytes)
@@ -200,10 +130,7 @@ written_back bytes l c is known n clean =
 
 -- no letter is a comma
 comma_no_pool : (c : ℕ) → is_some (pool_of c) ≡ true → c ≡ 44 → ⊥
-comma_no_pool c e is =
-    let bad = subst (λ c. is_some (pool_of c) ≡ true) is e in
-    let z : ◌≡◌ {A = ℕ} 0 1 = cc in
-    omega arith
+comma_no_pool c e is = grind (arith, nat_tests)
 
 byte_plain : (l : Letter) → byte_of l ≡ 44 → ⊥
 byte_plain Header e = omega arith
@@ -263,48 +190,24 @@ Fitting (transfer n m o) = (n < 2 ^ 64) × (m < 2 ^ 64) × (o < 2 ^ 64)
 
 cost_made : (n c : ℕ) (p : Posting) → n < 2 ^ 64 → c < 2 ^ 64 → ((k : ℕ) → 2 ≤ k → k ≤ count (letter (cost n p c)) → asked (letter (cost n p c)) (fields (cost n p c)) k ≡ None) → made (field (fields (cost n p c))) (letter (cost n p c)) ≡ cost n p c
 cost_made n c (posting.Expense p) hn hc clean =
-    let en = value_of n hn in
-    let ec = value_of c hc in
-    let ep = letter_first p (pool_passed Pool Expense 3 (encode p) (encode p) (inl refl) (clean 3 (omega arith) (omega arith))) in
-    λ i. cost (en i) (posting.Expense (ep i)) (ec i)
+    let e : get_or (encode p) 0 0 ≡ p = letter_first p (clean_at Expense (fields (cost n (posting.Expense p) c)) clean 3 refl).1 in
+    rw (value_of n hn, value_of c hc, e) refl
 cost_made n c (posting.Credit p) hn hc clean =
-    let en = value_of n hn in
-    let ec = value_of c hc in
-    let ep = letter_first p (pool_passed Pool Credit 3 (encode p) (encode p) (inl refl) (clean 3 (omega arith) (omega arith))) in
-    λ i. cost (en i) (posting.Credit (ep i)) (ec i)
+    let e : get_or (encode p) 0 0 ≡ p = letter_first p (clean_at Credit (fields (cost n (posting.Credit p) c)) clean 3 refl).1 in
+    rw (value_of n hn, value_of c hc, e) refl
 cost_made n c (posting.Shift p q) hn hc clean =
-    let en = value_of n hn in
-    let ec = value_of c hc in
-    let ep = letter_first p (pool_passed Pool Shift 3 (encode p) (encode p) (inl refl) (clean 3 (omega arith) (omega arith))) in
-    let eq = letter_first q (pool_passed OtherPool Shift 4 (encode q) (encode p) (inr refl) (clean 4 (omega arith) (omega arith))) in
-    λ i. cost (en i) (posting.Shift (ep i) (eq i)) (ec i)
+    let here = clean_at Shift (fields (cost n (posting.Shift p q) c)) clean in
+    let e : get_or (encode p) 0 0 ≡ p = letter_first p (here 3 refl).1 in
+    let d : get_or (encode q) 0 0 ≡ q = letter_first q (pool_passed OtherPool Shift 4 (encode q) (encode p) (inr refl) (here 4 refl).1) in
+    rw (value_of n hn, value_of c hc, e, d) refl
 
 made_fields : (c : Contents) → Fitting c → ((k : ℕ) → 2 ≤ k → k ≤ count (letter c) → asked (letter c) (fields c) k ≡ None) → made (field (fields c)) (letter c) ≡ c
-made_fields (header a b) fit clean =
-    let ea = value_of a fit.0 in
-    let eb = value_of b fit.1 in
-    λ i. header (ea i) (eb i)
+made_fields (header a b) fit clean = rw (value_of a fit.0, value_of b fit.1) refl
 made_fields (customer name f) fit clean =
-    let e0 = value_of f.number fit.0 in
-    let e1 = value_of f.measured fit.1 in
-    let e2 = value_of f.founding fit.2 in
-    let e3 = value_of f.conservation fit.3 in
-    let e4 = value_of f.retail fit.4 in
-    let e5 = value_of f.large fit.5 in
-    let e6 = value_of f.resources fit.6 in
-    let e7 = value_of f.elected fit.7 in
-    let e8 = value_of f.slice fit.8 in
-    λ i. customer name (record { number = e0 i; measured = e1 i; founding = e2 i; conservation = e3 i; retail = e4 i; large = e5 i; resources = e6 i; elected = e7 i; slice = e8 i })
+    rw (value_of f.number fit.0, value_of f.measured fit.1, value_of f.founding fit.2, value_of f.conservation fit.3, value_of f.retail fit.4, value_of f.large fit.5, value_of f.resources fit.6, value_of f.elected fit.7, value_of f.slice fit.8) refl
 made_fields (cost n p c) fit clean = cost_made n c p fit.0 fit.1 clean
-made_fields (grant n m) fit clean =
-    let en = value_of n fit.0 in
-    let em = value_of m fit.1 in
-    λ i. grant (en i) (em i)
-made_fields (transfer n m o) fit clean =
-    let en = value_of n fit.0 in
-    let em = value_of m fit.1 in
-    let eo = value_of o fit.2 in
-    λ i. transfer (en i) (em i) (eo i)
+made_fields (grant n m) fit clean = rw (value_of n fit.0, value_of m fit.1) refl
+made_fields (transfer n m o) fit clean = rw (value_of n fit.0, value_of m fit.1, value_of o fit.2) refl
 
 byte_known : (l : Letter) → letter_of (byte_of l ∷ []) ≡ Some l
 byte_known Header = refl
@@ -329,8 +232,7 @@ accepted : (o p : Option Fault) (n : ℕ) (r : Result ℕ Fault) → is_ok r ≡
 accepted None p n r ok e = refl
 accepted (Some f) p n r ok e =
     let bad : false ≡ true = ap is_ok (sym e) ∙ ok in
-    let z : ◌≡◌ {A = ℕ} 0 1 = cc in
-    absurd (omega arith)
+    cc
 
 -- a line that is written is read again
 reads_back : (c : Contents) → Fitting c → fault_in c ≡ None → line_of (written c) ≡ Ok c
@@ -356,47 +258,14 @@ writes_from c buffer r buffer' fit w =
     }
 
 -- every figure of what is read is in its range
-ranged_field : (l : Letter) (fs : List (List ℕ)) → ((k : ℕ) → 2 ≤ k → k ≤ count l → asked l fs k ≡ None) → (k : ℕ) → 2 ≤ k → k ≤ count l → kind l k ≡ Figure → in_range l k (digits_value 10 (field fs k)) ≡ true
-ranged_field l fs clean k a b e =
-    subst (λ κ. passes κ l k (field fs k) (field fs 3) ≡ true) e (asks_passes (kind l k) l k (field fs k) (field fs 3) (clean k a b)).1
-
 made_ranged : (l : Letter) (fs : List (List ℕ)) → ((k : ℕ) → 2 ≤ k → k ≤ count l → asked l fs k ≡ None) → ranged (made (field fs) l) ≡ true
-made_ranged Header fs clean =
-    let r2 = ranged_field Header fs clean 2 (omega arith) (omega arith) refl in
-    let r3 = ranged_field Header fs clean 3 (omega arith) (omega arith) refl in
-    and_from (in_range Header 2 (digits_value 10 (field fs 2))) (in_range Header 3 (digits_value 10 (field fs 3))) (r2) r3
-made_ranged Customer fs clean =
-    let r2 = ranged_field Customer fs clean 2 (omega arith) (omega arith) refl in
-    let r4 = ranged_field Customer fs clean 4 (omega arith) (omega arith) refl in
-    let r5 = ranged_field Customer fs clean 5 (omega arith) (omega arith) refl in
-    let r6 = ranged_field Customer fs clean 6 (omega arith) (omega arith) refl in
-    let r7 = ranged_field Customer fs clean 7 (omega arith) (omega arith) refl in
-    let r8 = ranged_field Customer fs clean 8 (omega arith) (omega arith) refl in
-    let r9 = ranged_field Customer fs clean 9 (omega arith) (omega arith) refl in
-    let r10 = ranged_field Customer fs clean 10 (omega arith) (omega arith) refl in
-    let r11 = ranged_field Customer fs clean 11 (omega arith) (omega arith) refl in
-    and_from (in_range Customer 2 (digits_value 10 (field fs 2)) && in_range Customer 4 (digits_value 10 (field fs 4)) && in_range Customer 5 (digits_value 10 (field fs 5)) && in_range Customer 6 (digits_value 10 (field fs 6)) && in_range Customer 7 (digits_value 10 (field fs 7)) && in_range Customer 8 (digits_value 10 (field fs 8)) && in_range Customer 9 (digits_value 10 (field fs 9)) && in_range Customer 10 (digits_value 10 (field fs 10))) (in_range Customer 11 (digits_value 10 (field fs 11))) (and_from (in_range Customer 2 (digits_value 10 (field fs 2)) && in_range Customer 4 (digits_value 10 (field fs 4)) && in_range Customer 5 (digits_value 10 (field fs 5)) && in_range Customer 6 (digits_value 10 (field fs 6)) && in_range Customer 7 (digits_value 10 (field fs 7)) && in_range Customer 8 (digits_value 10 (field fs 8)) && in_range Customer 9 (digits_value 10 (field fs 9))) (in_range Customer 10 (digits_value 10 (field fs 10))) (and_from (in_range Customer 2 (digits_value 10 (field fs 2)) && in_range Customer 4 (digits_value 10 (field fs 4)) && in_range Customer 5 (digits_value 10 (field fs 5)) && in_range Customer 6 (digits_value 10 (field fs 6)) && in_range Customer 7 (digits_value 10 (field fs 7)) && in_range Customer 8 (digits_value 10 (field fs 8))) (in_range Customer 9 (digits_value 10 (field fs 9))) (and_from (in_range Customer 2 (digits_value 10 (field fs 2)) && in_range Customer 4 (digits_value 10 (field fs 4)) && in_range Customer 5 (digits_value 10 (field fs 5)) && in_range Customer 6 (digits_value 10 (field fs 6)) && in_range Customer 7 (digits_value 10 (field fs 7))) (in_range Customer 8 (digits_value 10 (field fs 8))) (and_from (in_range Customer 2 (digits_value 10 (field fs 2)) && in_range Customer 4 (digits_value 10 (field fs 4)) && in_range Customer 5 (digits_value 10 (field fs 5)) && in_range Customer 6 (digits_value 10 (field fs 6))) (in_range Customer 7 (digits_value 10 (field fs 7))) (and_from (in_range Customer 2 (digits_value 10 (field fs 2)) && in_range Customer 4 (digits_value 10 (field fs 4)) && in_range Customer 5 (digits_value 10 (field fs 5))) (in_range Customer 6 (digits_value 10 (field fs 6))) (and_from (in_range Customer 2 (digits_value 10 (field fs 2)) && in_range Customer 4 (digits_value 10 (field fs 4))) (in_range Customer 5 (digits_value 10 (field fs 5))) (and_from (in_range Customer 2 (digits_value 10 (field fs 2))) (in_range Customer 4 (digits_value 10 (field fs 4))) (r2) r4) r5) r6) r7) r8) r9) r10) r11
-made_ranged Expense fs clean =
-    let r2 = ranged_field Expense fs clean 2 (omega arith) (omega arith) refl in
-    let r4 = ranged_field Expense fs clean 4 (omega arith) (omega arith) refl in
-    and_from (in_range Expense 2 (digits_value 10 (field fs 2))) (in_range Expense 4 (digits_value 10 (field fs 4))) (r2) r4
-made_ranged Credit fs clean =
-    let r2 = ranged_field Credit fs clean 2 (omega arith) (omega arith) refl in
-    let r4 = ranged_field Credit fs clean 4 (omega arith) (omega arith) refl in
-    and_from (in_range Credit 2 (digits_value 10 (field fs 2))) (in_range Credit 4 (digits_value 10 (field fs 4))) (r2) r4
-made_ranged Shift fs clean =
-    let r2 = ranged_field Shift fs clean 2 (omega arith) (omega arith) refl in
-    let r5 = ranged_field Shift fs clean 5 (omega arith) (omega arith) refl in
-    and_from (in_range Shift 2 (digits_value 10 (field fs 2))) (in_range Shift 5 (digits_value 10 (field fs 5))) (r2) r5
-made_ranged Grant fs clean =
-    let r2 = ranged_field Grant fs clean 2 (omega arith) (omega arith) refl in
-    let r3 = ranged_field Grant fs clean 3 (omega arith) (omega arith) refl in
-    and_from (in_range Grant 2 (digits_value 10 (field fs 2))) (in_range Grant 3 (digits_value 10 (field fs 3))) (r2) r3
-made_ranged Transfer fs clean =
-    let r2 = ranged_field Transfer fs clean 2 (omega arith) (omega arith) refl in
-    let r3 = ranged_field Transfer fs clean 3 (omega arith) (omega arith) refl in
-    let r4 = ranged_field Transfer fs clean 4 (omega arith) (omega arith) refl in
-    and_from (in_range Transfer 2 (digits_value 10 (field fs 2)) && in_range Transfer 3 (digits_value 10 (field fs 3))) (in_range Transfer 4 (digits_value 10 (field fs 4))) (and_from (in_range Transfer 2 (digits_value 10 (field fs 2))) (in_range Transfer 3 (digits_value 10 (field fs 3))) (r2) r3) r4
+made_ranged Header fs clean = let r = ranged_field Header fs clean in rw (r 2 refl refl, r 3 refl refl) refl
+made_ranged Customer fs clean = let r = ranged_field Customer fs clean in rw (r 2 refl refl, r 4 refl refl, r 5 refl refl, r 6 refl refl, r 7 refl refl, r 8 refl refl, r 9 refl refl, r 10 refl refl, r 11 refl refl) refl
+made_ranged Expense fs clean = let r = ranged_field Expense fs clean in rw (r 2 refl refl, r 4 refl refl) refl
+made_ranged Credit fs clean = let r = ranged_field Credit fs clean in rw (r 2 refl refl, r 4 refl refl) refl
+made_ranged Shift fs clean = let r = ranged_field Shift fs clean in rw (r 2 refl refl, r 5 refl refl) refl
+made_ranged Grant fs clean = let r = ranged_field Grant fs clean in rw (r 2 refl refl, r 3 refl refl) refl
+made_ranged Transfer fs clean = let r = ranged_field Transfer fs clean in rw (r 2 refl refl, r 3 refl refl, r 4 refl refl) refl
 
 pub read_ranged : (l : Letter) (fs : List (List ℕ)) (c : Contents) → c ≡ made (field fs) l → faults l fs ≡ None → ranged c ≡ true
 read_ranged l fs c is none = ap ranged is ∙ made_ranged l fs (clean_from l fs none)

@@ -2,8 +2,6 @@
 use Rattle.std.specs.Prelude.{ℕ, ◌-◌, cond, List, [], length, Some, None, Option, ◌==◌, slice_index, slice_index_or}
 use Rattle.units.specs.declared.ranges.Letter.{Letter}
 use Rattle.units.specs.declared.ranges.Letter.TheVariants.{Header, Customer, Expense, Credit, Shift, Grant, Transfer}
-use Rattle.lines.specs.declared.forms.Kind.{Kind}
-use Rattle.lines.specs.declared.forms.Kind.TheVariants.{Figure, Name, Pool, OtherPool}
 
 -- The field of a number; the letter is field 1.
 abbrev pub field : List (List ℕ) → ℕ → List ℕ
@@ -37,7 +35,13 @@ count Shift = 5
 count Grant = 3
 count Transfer = 4
 
--- What stands in a field.
+-- What stands in a field: digits, a customer's name, a pool's letter, or that of a shift's second pool.
+pub data Kind : Type 0 where
+  Figure : Kind
+  Name : Kind
+  Pool : Kind
+  OtherPool : Kind
+
 abbrev pub kind : Letter → ℕ → Kind
 kind Header k = Figure
 kind Customer k = cond (k == 3) Name Figure

@@ -1,20 +1,17 @@
 -- The questions that are put to the fields of a line.
-use Rattle.std.specs.Prelude.{◌≡◌, ℕ, zero, suc, ◌+◌, ◌^◌, ◌<◌, Bool, true, false, cond, not, ◌&&◌, ◌⊎◌, List, [], ◌∷◌, length, is_some, Some, None, Ok, Err, Option, Result, ◌==◌, nat_le, nat_lt, slice_index}
+use Rattle.std.specs.Prelude.{◌≡◌, ℕ, zero, suc, ◌+◌, ◌^◌, ◌<◌, Bool, true, false, cond, not, ◌&&◌, ◌⊎◌, List, [], ◌∷◌, length, is_some, Some, None, Option, ◌==◌, nat_le, nat_lt, slice_index}
 use Rattle.std.specs.Str.Parse.{digits_value}
 use Rattle.units.specs.Ranges.{in_range}
 use Rattle.units.specs.declared.ranges.Letter.{Letter}
 use Rattle.figures.specs.Figure.{spelled as a_figure}
 use Rattle.records.specs.Pools.{pool_of}
-use Rattle.rows.specs.Rows.{spelled}
 use Rattle.rows.specs.declared.field.Field.{Field}
 use Rattle.rows.specs.declared.field.Field.TheVariants as held
 use Rattle.lines.specs.declared.fault.Fault.{Fault}
 use Rattle.lines.specs.declared.fault.Refusal.{Refusal}
 use Rattle.lines.specs.declared.fault.Refusal.TheVariants.{NotAFigure, OutOfRange, NotAName, UnknownPool}
-use Rattle.lines.specs.declared.forms.Kind.{Kind}
-use Rattle.lines.specs.declared.forms.Kind.TheVariants.{Figure, Name, Pool, OtherPool}
+use Rattle.lines.specs.Forms.{Kind, Figure, Name, Pool, OtherPool, field, kind}
 use Rattle.lines.specs.Answers.{at_field, or_else}
-use Rattle.lines.specs.Forms.{field, kind}
 
 -- A byte of a name: from 32 to 126, and no comma.
 abbrev pub name_byte : ℕ → Bool
@@ -84,8 +81,3 @@ holds c (held.Text bytes) = false
 holds c (held.Letter d) = c == d
 holds c (held.Figure n) = false
 holds c (held.Minus n) = false
-
--- Bytes as a field of a kind: one that is spelled as they are, or what every line refuses them for.
-abbrev pub Typed : Kind → List ℕ → Result Field Refusal → Type 0
-Typed kind bytes (Ok f) = Fits kind f × (spelled f ≡ bytes) × (typed kind bytes ≡ true)
-Typed kind bytes (Err e) = (l : Letter) (k : ℕ) (third : List ℕ) → asks kind l k bytes third ≡ Some e

@@ -1,39 +1,42 @@
--- Fields as they are read, one after the other.
-use Rattle.std.specs.Prelude.{◌≡◌, ℕ, ◌-◌, ◌≤◌, List, [], map, Some, None, Ok, Err, Result, slice_index_or}
-use Rattle.units.specs.declared.ranges.Letter.{Letter}
-use Rattle.rows.specs.Rows.{spelled}
-use Rattle.rows.specs.declared.field.Field.{Field}
-use Rattle.rows.specs.declared.field.Field.TheVariants as held
-use Rattle.lines.specs.declared.fault.Refusal.{Refusal}
-use Rattle.lines.specs.Forms.{kind}
-use Rattle.lines.specs.Questions.{asks, asked, Fits}
+-- Fields as they are taken, one after the other.
+use Rattle.std.specs.Prelude.{◌≡◌, ℕ, ◌+◌, ◌-◌, ◌≤◌, List, length, drop, Err, Option, Result, MatchResult}
+use Rattle.std.specs.Borrow.{Bor}
+use Rattle.rows.specs.Rows.{parted, parts_after}
+use Rattle.lines.specs.declared.fault.Fault.{Fault}
+use Rattle.lines.specs.declared.taking.Fields.{Fields}
+use Rattle.lines.specs.declared.line.Line.{Line}
+use Rattle.lines.specs.Forms.{Kind, field, count, kind}
+use Rattle.lines.specs.Lines.{contents, made, read_fields}
 
--- The figure, the text and the letter in a field.
-abbrev pub figure_in : Field → ℕ
-figure_in (held.Text bytes) = 0
-figure_in (held.Letter c) = 0
-figure_in (held.Figure n) = n
-figure_in (held.Minus n) = 0
+-- All fields of a line of which some are taken.
+abbrev pub all : Fields → List (List ℕ)
+all s = parted 44 s.line.now
 
-abbrev pub text_in : Field → List ℕ
-text_in (held.Text bytes) = bytes.now
-text_in (held.Letter c) = []
-text_in (held.Figure n) = []
-text_in (held.Minus n) = []
+-- The bytes of the next field, and what stands after it.
+pub record Next (s : Fields) (bytes : List ℕ) (rest : Option (Bor (List ℕ))) : Type 0 where
+  pub is : bytes ≡ field (all s) s.place
+  pub left : parts_after 44 rest ≡ drop s.place (all s)
+  pub within : s.place ≤ length (all s)
 
-abbrev pub letter_in : Field → ℕ
-letter_in (held.Text bytes) = 32
-letter_in (held.Letter c) = c
-letter_in (held.Figure n) = 32
-letter_in (held.Minus n) = 32
+-- So many fields are taken of the same line.
+pub record Taken (n : ℕ) (s t : Fields) : Type 0 where
+  pub all : all t ≡ all s
+  pub letter : t.letter ≡ s.letter
+  pub place : t.place ≡ s.place + n
 
--- A field of a line that is spelled as some bytes and passes, or what they are refused for.
-abbrev pub ReadField : Letter → ℕ → List ℕ → Field → Result Field Refusal → Type 0
-ReadField l k bytes third (Ok f) =
-    Fits (kind l k) f × (spelled f ≡ bytes) × (asks (kind l k) l k bytes (spelled third) ≡ None)
-ReadField l k bytes third (Err e) = asks (kind l k) l k bytes (spelled third) ≡ Some e
+-- The next field is one of those that the letter asks for, and of this kind.
+pub record Due (κ : Kind) (s : Fields) : Type 0 where
+  pub few : s.place ≤ count s.letter
+  pub kind : kind s.letter s.place ≡ κ
 
--- The fields from the second to the n-th hold what they should, and pass.
-abbrev pub Passed : Letter → List Field → ℕ → Type 0
-Passed l fields n =
-    (k : ℕ) → 2 ≤ k → k ≤ n → Fits (kind l k) (slice_index_or fields (k - 1) (held.Figure 0)) × (asked l (map spelled fields) k ≡ None)
+-- The line is refused with this fault.
+abbrev pub Refuses : Fields → Fault → Type 0
+Refuses s f = Err f ≡ read_fields (all s)
+
+-- So many fields are taken, and what is read of them is as it should be; or the line is refused.
+abbrev pub Takes : {X : Type 0} → ℕ → Fields → Fields → Result X Fault → (X → Type 0) → Type 0
+Takes n s t r Holds = MatchResult r (λ x. Taken n s t × Holds x) (Refuses s)
+
+-- All fields are taken, and what is read is the line that they make.
+abbrev pub TakesAll : Fields → Fields → Result Line Fault → Type 0
+TakesAll s t r = Takes (count s.letter - 1) s t r (λ l. contents l ≡ made (field (all s)) s.letter)

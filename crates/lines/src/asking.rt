@@ -1,13 +1,14 @@
 //! The questions that are put to a field.
-ghost use Rattle.std.specs.Prelude.{◌≡◌, not, ◌&&◌, is_some};
+ghost use Rattle.std.specs.Prelude.{◌≡◌, not, ◌&&◌, ◌==◌, [], is_some, if◌then◌else◌, Ok, Err, slice_index};
+ghost use Rattle.std.specs.Str.Parse.{digits_value};
 ghost use Rattle.records.specs.Pools.{pool_of};
 ghost use Rattle.rows.specs.Rows.{spelled};
-ghost use Rattle.lines.specs.Answers.{told};
-ghost use Rattle.lines.specs.Forms.{kind};
-ghost use Rattle.lines.specs.Questions.{a_name, holds, refused, passes, asks, Fits, Compared, Typed};
+ghost use Rattle.lines.specs.Answers.{told, at_field};
+ghost use Rattle.lines.specs.Forms.{kind, Figure};
+ghost use Rattle.lines.specs.Questions.{a_name, a_pool, holds, asks, Fits, Compared};
+ghost use Rattle.lines.specs.declared.fault.Refusal.TheVariants.{NotAName, UnknownPool};
 
-use crate::fault::Refusal;
-use crate::forms::{Kind, kind_of};
+use crate::fault::{Fault, Refusal};
 use records::Pool;
 use rows::Field;
 use units::{Letter, in_range};
@@ -16,15 +17,10 @@ use units::{Letter, in_range};
 pub fn is_name(bytes: &[u8]) -> bool
     ensures { result ≡ a_name bytes.now }
 {
-    if bytes.is_empty() || bytes.len() > 24 {
-        return false;
-    }
-    for byte in bytes {
-        if *byte < 32 || *byte > 126 || *byte == b',' {
-            return false;
-        }
-    }
-    true
+    (1..=24).contains(&bytes.len())
+        && bytes
+            .iter()
+            .all(|byte| matches!(byte, b' '..=b'~') && *byte != b',')
 }
 
 // Whether a letter names a pool.
@@ -44,66 +40,80 @@ fn is_other_pool(letter: char, field: Field<'_>) -> bool
     }
 }
 
-// Whether a field's figure is in its range, its name lawful, or its pool
-// known and, in the second pool of a shift, unlike the first, which stands in
-// the third field.
-fn is_lawful(letter: Letter, place: usize, field: Field<'_>, third: Field<'_>) -> bool
-    requires { (Fits (kind letter place) field) × (Compared (kind letter place) third) }
-    ensures { result ≡ passes (kind letter place) letter place (spelled field.entry) (spelled third.entry) }
+// What is told of the field at a place, which is lawful or refused.
+fn told(lawful: bool, place: usize, refusal: Refusal) -> Result<(), Fault>
+    ensures { result ≡ (if lawful then Ok tt else Err (record { field = place; refusal = refusal })) }
 {
-    match field {
-        Field::Figure(n) => in_range(letter, place, n),
-        Field::Text(name) => is_name(name),
-        Field::Letter(pool) => match kind_of(letter, place) {
-            Kind::OtherPool => is_other_pool(pool, third),
-            _ => is_pool(pool),
-        },
-        Field::Minus(_) => false,
+    if !lawful {
+        return Err(Fault::at(place, refusal));
     }
-}
-
-// What is told of a field that is not lawful.
-fn refusal_of(kind: Kind) -> Refusal
-    ensures { result ≡ refused kind }
-{
-    match kind {
-        Kind::Figure => Refusal::OutOfRange,
-        Kind::Name => Refusal::NotAName,
-        Kind::Pool | Kind::OtherPool => Refusal::UnknownPool,
-    }
+    Ok(())
 }
 
 /// Asks whether a field's figure is in its range (6), its name lawful (7), or
-/// its pool known and, in the second pool of a shift, unlike the first (8),
-/// which stands in the third field.
+/// its pool known and, in the second pool of a shift, unlike the first, which
+/// stands in the third field (8).
 pub(crate) fn ask(
     letter: Letter,
     place: usize,
     field: Field<'_>,
     third: Field<'_>,
-) -> Result<(), Refusal>
+) -> Result<(), Fault>
     requires { (Fits (kind letter place) field) × (Compared (kind letter place) third) }
-    ensures { result ≡ told tt (asks (kind letter place) letter place (spelled field.entry) (spelled third.entry)) }
+    ensures { result ≡ told tt (at_field place (asks (kind letter place) letter place (spelled field.entry) (spelled third.entry))) }
 {
-    if !is_lawful(letter, place, field, third) {
-        return Err(refusal_of(kind_of(letter, place)));
+    match field {
+        Field::Figure(n) => told(in_range(letter, place, n), place, Refusal::OutOfRange),
+        Field::Text(name) => told(is_name(name), place, Refusal::NotAName),
+        Field::Letter(pool) if place > 3 => told(
+            is_other_pool(pool, third),
+            place,
+            Refusal::UnknownPool,
+        ),
+        Field::Letter(pool) => told(is_pool(pool), place, Refusal::UnknownPool),
+        Field::Minus(_) => told(false, place, Refusal::OutOfRange),
     }
-    Ok(())
 }
 
-/// The field that some bytes are: a figure's digits (5, or 6 where no range
-/// reaches so far), a name as it is, or a pool's one letter (8).
-pub(crate) fn field_of<'a>(kind: Kind, bytes: &'a [u8]) -> Result<Field<'a>, Refusal>
-    ensures { Typed kind bytes.now result }
+/// The figure that some bytes are: digits only (5), and in the range of its
+/// field (6).
+pub(crate) fn figure_in(letter: Letter, place: usize, bytes: &[u8]) -> Result<u64, Refusal>
+    ensures { result ≡ told (digits_value 10 bytes.now) (asks Figure letter place bytes.now []) }
 {
-    match kind {
-        Kind::Figure => Ok(Field::Figure(figures::read(bytes)?)),
-        Kind::Name => Ok(Field::Text(bytes)),
-        Kind::Pool | Kind::OtherPool => {
-            if bytes.len() != 1 || bytes[0] > 127 {
-                return Err(Refusal::UnknownPool);
-            }
-            Ok(Field::Letter(bytes[0] as char))
-        }
+    let n = figures::read(bytes)?;
+    if !in_range(letter, place, n) {
+        return Err(Refusal::OutOfRange);
     }
+    Ok(n)
+}
+
+/// The name that some bytes are (7).
+pub(crate) fn name_in<'a>(bytes: &'a [u8]) -> Result<&'a [u8], Refusal>
+    ensures { result ≡ (if a_name bytes.now then Ok bytes.entry else Err NotAName) }
+{
+    if !is_name(bytes) {
+        return Err(Refusal::NotAName);
+    }
+    Ok(bytes)
+}
+
+/// The pool's letter that some bytes are (8).
+pub(crate) fn pool_in(bytes: &[u8]) -> Result<char, Refusal>
+    ensures { result ≡ (if a_pool bytes.now then Ok (slice_index bytes.now 0) else Err UnknownPool) }
+{
+    match bytes {
+        [byte] if is_pool(*byte as char) => Ok(*byte as char),
+        _ => Err(Refusal::UnknownPool),
+    }
+}
+
+/// The letter of a pool other than a first one (8).
+pub(crate) fn other_pool_in(bytes: &[u8], first: char) -> Result<char, Refusal>
+    ensures { result ≡ (if a_pool bytes.now && not (slice_index bytes.now 0 == first) then Ok (slice_index bytes.now 0) else Err UnknownPool) }
+{
+    let pool = pool_in(bytes)?;
+    if pool == first {
+        return Err(Refusal::UnknownPool);
+    }
+    Ok(pool)
 }

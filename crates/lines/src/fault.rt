@@ -6,19 +6,19 @@ ghost use Rattle.lines.specs.Answers.{number, of_figure};
 #[derive(Clone, Copy, PartialEq, Eq, Debug)]
 pub enum Refusal {
     /// 3: the letter is not known.
-    UnknownLetter,
+    UnknownLetter = 3,
     /// 4: the line has not as many fields as its letter asks for.
-    FieldCount,
+    FieldCount = 4,
     /// 5: a figure is not digits only, has none, or has a leading 0.
-    NotAFigure,
+    NotAFigure = 5,
     /// 6: a figure is outside its range.
-    OutOfRange,
+    OutOfRange = 6,
     /// 7: a name has not 1 to 24 bytes from 32 to 126 without the comma.
-    NotAName,
+    NotAName = 7,
     /// 8: a pool's letter is not known, or a shift names a pool twice.
-    UnknownPool,
+    UnknownPool = 8,
     /// 9: the buffer is too short for the line.
-    NoRoom,
+    NoRoom = 9,
 }
 
 impl Refusal {
@@ -26,15 +26,7 @@ impl Refusal {
     pub fn number(self) -> u8
         ensures { result ≡ number self }
     {
-        match self {
-            Refusal::UnknownLetter => 3,
-            Refusal::FieldCount => 4,
-            Refusal::NotAFigure => 5,
-            Refusal::OutOfRange => 6,
-            Refusal::NotAName => 7,
-            Refusal::UnknownPool => 8,
-            Refusal::NoRoom => 9,
-        }
+        self as u8
     }
 }
 
@@ -51,8 +43,25 @@ impl From<figures::Refusal> for Refusal {
 
 /// A refused line: the question that fails, and the field to which it is put.
 /// The letter is field 1; a question to the whole line has field 0.
+// Field 0 and no Option, since the row of a fault writes it so.
 #[derive(Clone, Copy, PartialEq, Eq, Debug)]
 pub struct Fault {
     pub field: usize,
     pub refusal: Refusal,
+}
+
+impl Fault {
+    // The fault of a field.
+    pub(crate) fn at(field: usize, refusal: Refusal) -> Fault
+        ensures { result ≡ record { field = field; refusal = refusal } }
+    {
+        Fault { field, refusal }
+    }
+
+    // The fault of a whole line.
+    pub(crate) fn of_line(refusal: Refusal) -> Fault
+        ensures { result ≡ record { field = 0; refusal = refusal } }
+    {
+        Fault::at(0, refusal)
+    }
 }

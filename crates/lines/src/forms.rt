@@ -1,30 +1,18 @@
-//! The letters of lines, and what stands in their fields.
+//! The letters of lines, and how many fields they have.
 ghost use Rattle.std.specs.Prelude.{◌≡◌, ◌≤◌};
-ghost use Rattle.lines.specs.Forms.{letter_of, count, kind};
+ghost use Rattle.lines.specs.Forms.{letter_of, count};
 
 use units::Letter;
 
-/// What stands in a field.
-#[derive(Clone, Copy)]
-pub enum Kind {
-    /// Decimal digits.
-    Figure,
-    /// A customer's name.
-    Name,
-    /// A pool's letter.
-    Pool,
-    /// The second pool's letter of a shift.
-    OtherPool,
-}
-
 /// The letter of a line, by its first field.
+// An Option and no TryFrom, which would be public, since `Letter` is.
 pub(crate) fn letter_of(bytes: &[u8]) -> Option<Letter>
     ensures { result ≡ letter_of bytes.now }
 {
-    if bytes.len() != 1 {
+    let [byte] = bytes else {
         return None;
-    }
-    match bytes[0] as char {
+    };
+    match *byte as char {
         'H' => Some(Letter::Header),
         'C' => Some(Letter::Customer),
         'E' => Some(Letter::Expense),
@@ -46,17 +34,5 @@ pub(crate) fn count(letter: Letter) -> usize
         Letter::Expense | Letter::Credit | Letter::Transfer => 4,
         Letter::Shift => 5,
         Letter::Customer => 11,
-    }
-}
-
-/// What stands in a field; the letter is field 1.
-pub(crate) fn kind_of(letter: Letter, field: usize) -> Kind
-    ensures { result ≡ kind letter field }
-{
-    match (letter, field) {
-        (Letter::Customer, 3) => Kind::Name,
-        (Letter::Expense, 3) | (Letter::Credit, 3) | (Letter::Shift, 3) => Kind::Pool,
-        (Letter::Shift, 4) => Kind::OtherPool,
-        _ => Kind::Figure,
     }
 }

@@ -6,6 +6,7 @@ mod fault;
 mod forms;
 mod line;
 mod reading;
+mod taking;
 mod writing;
 
 pub use asking::is_name;

@@ -1,140 +1,97 @@
 //! A line is read.
-ghost use Rattle.std.specs.Prelude.{◌≡◌, ◌+◌, ◌≤◌, true, eqb, map, length, IfOk, if◌then◌else◌, None};
-ghost use Rattle.rows.specs.Rows.{parts_after, spelled};
-ghost use Rattle.lines.specs.Lines.{contents, made, written, fault_in, ranged, answer_of, line_of};
-ghost use Rattle.lines.specs.Forms.{field, count, kind};
-ghost use Rattle.lines.specs.Questions.{Compared};
-ghost use Rattle.lines.specs.Reading.{figure_in, text_in, letter_in, ReadField, Passed};
-ghost use Rattle.lines.specs.declared.fault.Refusal.TheVariants.{FieldCount};
+ghost use Rattle.std.specs.Prelude.{◌≡◌, ◌≤◌, ◌<◌, ◌^◌, true, IfOk, None, Err, MatchResult};
+ghost use Rattle.units.specs.Ranges.{range};
+ghost use Rattle.units.specs.declared.ranges.Letter.TheVariants.{Customer, Shift};
+ghost use Rattle.book.specs.declared.figures.Posting.TheVariants as posting;
+ghost use Rattle.lines.specs.Forms.{field, count, kind, Figure};
+ghost use Rattle.lines.specs.Lines.{contents, written, fault_in, ranged, answer_of, line_of, read_fields, figure, pool};
+ghost use Rattle.lines.specs.Reading.{all, Due, Takes, TakesAll};
 
-use crate::asking::{ask, field_of};
-use crate::fault::{Fault, Refusal};
-use crate::forms::{count, kind_of, letter_of};
+use crate::fault::Fault;
 use crate::line::Line;
+use crate::taking::Fields;
 use book::{Figures, Posting};
-use rows::Field;
 use units::Letter;
 
-// The figure in a field.
-fn figure(field: Field<'_>) -> u64
-    ensures { result ≡ figure_in field.entry }
-{
-    match field {
-        Field::Figure(n) => n,
-        _ => 0,
+impl<'a> Fields<'a> {
+    // A figure that is a record's number.
+    fn number(&mut self) -> Result<u32, Fault>
+        requires due { Due Figure self.old }
+        requires small { (range self.old.letter self.old.place).1 < 2 ^ 32 }
+        ensures { Takes 1 self.old self.new result (λ n. n ≡ figure (field (all self.old)) self.old.place) }
+    {
+        Ok(self.figure()? as u32)
     }
-}
 
-// The text in a field.
-fn text<'a>(field: Field<'a>) -> &'a [u8]
-    ensures { result.now ≡ text_in field.entry }
-{
-    match field {
-        Field::Text(bytes) => bytes,
-        _ => b"",
+    // The pools of a shift.
+    fn shift(&mut self) -> Result<Posting, Fault>
+        requires letter { self.old.letter ≡ Shift }
+        requires place { self.old.place ≡ 3 }
+        ensures { Takes 2 self.old self.new result (λ p. p ≡ posting.Shift (pool (field (all self.old)) 3) (pool (field (all self.old)) 4)) }
+    {
+        let first = self.pool()?;
+        let second = self.other_pool(first)?;
+        Ok(Posting::Shift(first, second))
     }
-}
 
-// The letter in a field.
-fn letter(field: Field<'_>) -> char
-    ensures { result ≡ letter_in field.entry }
-{
-    match field {
-        Field::Letter(letter) => letter,
-        _ => ' ',
-    }
-}
-
-// Reads a field, and asks what is asked of it.
-fn read_field<'a>(
-    line: Letter,
-    place: usize,
-    bytes: &'a [u8],
-    third: Field<'_>,
-) -> Result<Field<'a>, Refusal>
-    requires { Compared (kind line place) third }
-    ensures { ReadField line place bytes.now third.entry result }
-{
-    let field = field_of(kind_of(line, place), bytes)?;
-    ask(line, place, field, third)?;
-    Ok(field)
-}
-
-// How many fields are left.
-fn left(rest: Option<&[u8]>) -> usize
-    ensures { result ≡ length (parts_after 44 rest.entry) }
-{
-    match rest {
-        Some(bytes) => rows::separators(bytes, b',') + 1,
-        None => 0,
-    }
-}
-
-// The fault of a field, if the count of fields is right.
-fn faulted(line: Letter, place: usize, refusal: Refusal, rest: Option<&[u8]>) -> Fault
-    requires { place ≤ count line }
-    ensures { result ≡ (if eqb (place + length (parts_after 44 rest.entry)) (count line) then (record { field = place; refusal = refusal }) else (record { field = 0; refusal = FieldCount })) }
-{
-    if left(rest) != count(line) - place {
-        return Fault {
-            field: 0,
-            refusal: Refusal::FieldCount,
+    // A customer's line.
+    fn customer(&mut self) -> Result<Line<'a>, Fault>
+        requires letter { self.old.letter ≡ Customer }
+        requires place { self.old.place ≡ 2 }
+        ensures { TakesAll self.old self.new result }
+    {
+        let number = self.figure()?;
+        let name = self.name()?;
+        let figures = Figures {
+            number,
+            measured: self.figure()?,
+            founding: self.figure()?,
+            conservation: self.figure()?,
+            retail: self.figure()?,
+            large: self.figure()?,
+            resources: self.figure()?,
+            elected: self.figure()?,
+            slice: self.figure()?,
         };
+        Ok(Line::Customer { name, figures })
     }
-    Fault {
-        field: place,
-        refusal,
-    }
-}
 
-// The line of some fields.
-fn line_of<'a>(line: Letter, fields: &[Field<'a>; 11]) -> Line<'a>
-    requires { Passed line fields.now (count line) }
-    ensures { contents result ≡ made (field (map spelled fields.now)) line }
-{
-    match line {
-        Letter::Header => Line::Header {
-            founding_total: figure(fields[1]),
-            capability: figure(fields[2]),
-        },
-        Letter::Customer => Line::Customer {
-            name: text(fields[2]),
-            figures: Figures {
-                number: figure(fields[1]),
-                measured: figure(fields[3]),
-                founding: figure(fields[4]),
-                conservation: figure(fields[5]),
-                retail: figure(fields[6]),
-                large: figure(fields[7]),
-                resources: figure(fields[8]),
-                elected: figure(fields[9]),
-                slice: figure(fields[10]),
-            },
-        },
-        Letter::Expense => Line::Cost {
-            number: figure(fields[1]) as u32,
-            posting: Posting::Expense(letter(fields[2])),
-            cents: figure(fields[3]),
-        },
-        Letter::Credit => Line::Cost {
-            number: figure(fields[1]) as u32,
-            posting: Posting::Credit(letter(fields[2])),
-            cents: figure(fields[3]),
-        },
-        Letter::Shift => Line::Cost {
-            number: figure(fields[1]) as u32,
-            posting: Posting::Shift(letter(fields[2]), letter(fields[3])),
-            cents: figure(fields[4]),
-        },
-        Letter::Grant => Line::Grant {
-            customer: figure(fields[1]) as u32,
-            load: figure(fields[2]),
-        },
-        Letter::Transfer => Line::Transfer {
-            giver: figure(fields[1]) as u32,
-            receiver: figure(fields[2]) as u32,
-            load: figure(fields[3]),
-        },
+    // The line that the fields hold, by its letter.
+    fn line(&mut self) -> Result<Line<'a>, Fault>
+        requires { self.old.place ≡ 2 }
+        ensures { TakesAll self.old self.new result }
+    {
+        match self.letter {
+            Letter::Header => Ok(Line::Header {
+                founding_total: self.figure()?,
+                capability: self.figure()?,
+            }),
+            Letter::Customer => self.customer(),
+            Letter::Expense => Ok(Line::Cost {
+                number: self.number()?,
+                posting: Posting::Expense(self.pool()?),
+                cents: self.figure()?,
+            }),
+            Letter::Credit => Ok(Line::Cost {
+                number: self.number()?,
+                posting: Posting::Credit(self.pool()?),
+                cents: self.figure()?,
+            }),
+            Letter::Shift => Ok(Line::Cost {
+                number: self.number()?,
+                posting: self.shift()?,
+                cents: self.figure()?,
+            }),
+            Letter::Grant => Ok(Line::Grant {
+                customer: self.number()?,
+                load: self.figure()?,
+            }),
+            Letter::Transfer => Ok(Line::Transfer {
+                giver: self.number()?,
+                receiver: self.number()?,
+                load: self.figure()?,
+            }),
+        }
     }
 }
 
@@ -152,33 +109,8 @@ pub fn read<'a>(line: &'a [u8]) -> Result<Line<'a>, Fault>
     ensures writes { IfOk result (λ l. (fault_in (contents l) ≡ None) × (written (contents l) ≡ line.now)) }
     ensures ranged { IfOk result (λ l. ranged (contents l) ≡ true) }
 {
-    let (first, mut rest) = rows::split(line, b',');
-    let Some(letter) = letter_of(first) else {
-        return Err(Fault {
-            field: 0,
-            refusal: Refusal::UnknownLetter,
-        });
-    };
-    let mut fields = [Field::Text(first); 11];
-    for i in 1..count(letter) {
-        let Some(left) = rest else {
-            return Err(Fault {
-                field: 0,
-                refusal: Refusal::FieldCount,
-            });
-        };
-        let (bytes, after) = rows::split(left, b',');
-        rest = after;
-        match read_field(letter, i + 1, bytes, fields[2]) {
-            Ok(field) => fields[i] = field,
-            Err(refusal) => return Err(faulted(letter, i + 1, refusal, rest)),
-        }
-    }
-    if rest.is_some() {
-        return Err(Fault {
-            field: 0,
-            refusal: Refusal::FieldCount,
-        });
-    }
-    Ok(line_of(letter, &fields))
+    let mut fields = Fields::of(line)?;
+    let read = fields.line()?;
+    fields.end()?;
+    Ok(read)
 }

@@ -18,21 +18,10 @@ fn write_fields(letter: Letter, fields: &[Field<'_>], buffer: &mut [u8]) -> Resu
     requires { (Shaped letter fields.now) × (length fields.now ≡ count letter) }
     ensures { WritesFields letter (map spelled fields.now) buffer.old result buffer.new }
 {
-    for i in 1..fields.len() {
-        if let Err(refusal) = ask(letter, i + 1, fields[i], fields[2]) {
-            return Err(Fault {
-                field: i + 1,
-                refusal,
-            });
-        }
+    for (i, field) in fields[1..].iter().enumerate() {
+        ask(letter, i + 2, *field, fields[2])?;
     }
-    match rows::write(fields, b"", buffer) {
-        Some(count) => Ok(count),
-        None => Err(Fault {
-            field: 0,
-            refusal: Refusal::NoRoom,
-        }),
-    }
+    rows::write(fields, b"", buffer).ok_or(Fault::of_line(Refusal::NoRoom))
 }
 
 // Writes a header's line.
@@ -71,34 +60,20 @@ fn write_customer(name: &[u8], figures: Figures, buffer: &mut [u8]) -> Result<us
 fn write_cost(number: u32, posting: Posting, cents: u64, buffer: &mut [u8]) -> Result<usize, Fault>
     ensures { Writes (cost number posting cents) buffer.old result buffer.new }
 {
-    let number = u64::from(number);
+    let number = Field::Figure(u64::from(number));
+    let cents = Field::Figure(cents);
     match posting {
         Posting::Expense(pool) => {
-            let fields = [
-                Field::Text(b"E"),
-                Field::Figure(number),
-                Field::Letter(pool),
-                Field::Figure(cents),
-            ];
+            let fields = [Field::Text(b"E"), number, Field::Letter(pool), cents];
             write_fields(Letter::Expense, &fields, buffer)
         }
         Posting::Credit(pool) => {
-            let fields = [
-                Field::Text(b"R"),
-                Field::Figure(number),
-                Field::Letter(pool),
-                Field::Figure(cents),
-            ];
+            let fields = [Field::Text(b"R"), number, Field::Letter(pool), cents];
             write_fields(Letter::Credit, &fields, buffer)
         }
         Posting::Shift(first, second) => {
-            let fields = [
-                Field::Text(b"A"),
-                Field::Figure(number),
-                Field::Letter(first),
-                Field::Letter(second),
-                Field::Figure(cents),
-            ];
+            let (first, second) = (Field::Letter(first), Field::Letter(second));
+            let fields = [Field::Text(b"A"), number, first, second, cents];
             write_fields(Letter::Shift, &fields, buffer)
         }
     }

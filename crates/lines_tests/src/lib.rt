@@ -23,18 +23,29 @@ mod tests {
 
     // A customer by its name, and its figures in the order of their fields.
     fn customer<'a>(name: &'a [u8], figures: [u64; 9]) -> Line<'a> {
+        let [
+            number,
+            measured,
+            founding,
+            conservation,
+            retail,
+            large,
+            resources,
+            elected,
+            slice,
+        ] = figures;
         Line::Customer {
             name,
             figures: Figures {
-                number: figures[0],
-                measured: figures[1],
-                founding: figures[2],
-                conservation: figures[3],
-                retail: figures[4],
-                large: figures[5],
-                resources: figures[6],
-                elected: figures[7],
-                slice: figures[8],
+                number,
+                measured,
+                founding,
+                conservation,
+                retail,
+                large,
+                resources,
+                elected,
+                slice,
             },
         }
     }
@@ -123,20 +134,15 @@ mod tests {
     // A page with some bytes at its front.
     fn page(bytes: &[u8]) -> [u8; ROOM] {
         let mut page = [BLANK; ROOM];
-        for (i, byte) in bytes.iter().enumerate() {
-            if i < ROOM {
-                page[i] = *byte;
-            }
+        for (place, byte) in page.iter_mut().zip(bytes) {
+            *place = *byte;
         }
         page
     }
 
     // An answer with its fault by field and number.
     fn told<T>(answer: Result<T, Fault>) -> Result<T, (usize, u8)> {
-        match answer {
-            Ok(value) => Ok(value),
-            Err(fault) => Err((fault.field, fault.refusal.number())),
-        }
+        answer.map_err(|fault| (fault.field, fault.refusal.number()))
     }
 
     // Writes a line into the first bytes of a page.

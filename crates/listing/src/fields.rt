@@ -1,18 +1,23 @@
 //! Money and sums, as fields of a row.
-ghost use Rattle.std.specs.Prelude.{◌≡◌, ◌+◌, ◌^◌, ◌<◌, ◌≤◌, pos, ◌-ℤ◌, sum_by};
+ghost use Rattle.std.specs.Prelude.{◌≡◌, ◌*◌, ◌<◌, ◌≤◌, length, sum_by};
 ghost use Rattle.std.specs.Fmt.{signed_decimal};
 ghost use Rattle.rows.specs.Rows.{spelled};
 ghost use Rattle.records.specs.Figures.{above_rhwm};
-ghost use Rattle.register.specs.Register.{records};
+ghost use Rattle.book.specs.Sides.{cost as pool_cost};
+ghost use Rattle.listing.specs.Listing.{charge_at};
 
-use records::Customer;
-use register::Register;
+use book::ClosedBook;
+use records::{Customer, Pool};
 use rows::Field;
 
-/// A charge, with a minus before a negative one.
-pub(crate) fn charge<'a>(cents: i64) -> Field<'a>
-    ensures { spelled result ≡ signed_decimal cents }
+/// The charge in a pool of the customer at a place, of so many customers, with
+/// a minus before a negative one.
+pub(crate) fn charge<'a>(charges: &[i64], customers: usize, at: usize, pool: Pool) -> Field<'a>
+    requires wide { 4 * customers ≤ length charges.now }
+    requires stands { at < customers }
+    ensures { spelled result ≡ signed_decimal (charge_at charges.now customers at pool) }
 {
+    let cents = charges[pool.order() * customers + at];
     if cents < 0 {
         Field::Minus(cents.unsigned_abs())
     } else {
@@ -20,10 +25,12 @@ pub(crate) fn charge<'a>(cents: i64) -> Field<'a>
     }
 }
 
-/// A cost: the cost side less the credit side, with a minus before a negative one.
-pub(crate) fn cost<'a>(costs: u64, credits: u64) -> Field<'a>
-    ensures { spelled result ≡ signed_decimal (pos costs -ℤ pos credits) }
+/// The cost of a pool: its cost side less its credit side, with a minus before
+/// a negative one.
+pub(crate) fn cost<'a, D>(book: &ClosedBook<D>, pool: Pool) -> Field<'a>
+    ensures { spelled result ≡ signed_decimal (pool_cost book.now.costs book.now.credits pool) }
 {
+    let (costs, credits) = book.sides(pool);
     if costs < credits {
         Field::Minus(credits - costs)
     } else {
@@ -31,27 +38,17 @@ pub(crate) fn cost<'a>(costs: u64, credits: u64) -> Field<'a>
     }
 }
 
-// A sum with a load more.
-fn raised(sum: u64, load: u32) -> u64
-    requires { sum < 2 ^ 63 }
-    ensures is { result ≡ sum + load }
-    ensures small { result ≤ sum + 2 ^ 32 }
-{
-    sum + u64::from(load)
-}
-
 /// The sums of the customers' marks, RHWMs and Above-RHWM loads.
-pub(crate) fn sums(customers: &Register<'_, Customer>) -> (u64, u64, u64)
-    ensures { result ≡ (sum_by (λ c. c.mark) (records customers.now), sum_by (λ c. c.rhwm) (records customers.now), sum_by above_rhwm (records customers.now)) }
+pub(crate) fn sums(customers: &[Customer]) -> (u64, u64, u64)
+    requires { length customers.now ≤ 512 }
+    ensures { result ≡ (sum_by (λ c. c.mark) customers.now, sum_by (λ c. c.rhwm) customers.now, sum_by above_rhwm customers.now) }
 {
-    let mut marks = 0;
-    let mut rhwms = 0;
-    let mut above = 0;
-    let records = customers.records();
-    for customer in records {
-        marks = raised(marks, customer.mark);
-        rhwms = raised(rhwms, customer.rhwm);
-        above = raised(above, customer.above_rhwm_load());
-    }
-    (marks, rhwms, above)
+    (
+        customers.iter().map(|c| u64::from(c.mark)).sum(),
+        customers.iter().map(|c| u64::from(c.rhwm)).sum(),
+        customers
+            .iter()
+            .map(|c| u64::from(c.above_rhwm_load()))
+            .sum(),
+    )
 }

@@ -6,13 +6,13 @@ ghost use Rattle.listing.specs.Answers.{number};
 #[derive(Clone, Copy, PartialEq, Eq, Debug)]
 pub enum Refusal {
     /// 25: no customer of the number stands.
-    Missing,
+    Missing = 25,
     /// 22: the charges sheet has not four places for each customer.
-    ShortSheet,
+    ShortSheet = 22,
     /// 7: the name has not 1 to 24 bytes from 32 to 126 without the comma.
-    NotAName,
+    NotAName = 7,
     /// 9: the buffer is too short for the row.
-    NoRoom,
+    NoRoom = 9,
 }
 
 impl Refusal {
@@ -20,11 +20,6 @@ impl Refusal {
     pub fn number(self) -> u8
         ensures { result ≡ number self }
     {
-        match self {
-            Refusal::Missing => 25,
-            Refusal::ShortSheet => 22,
-            Refusal::NotAName => 7,
-            Refusal::NoRoom => 9,
-        }
+        self as u8
     }
 }

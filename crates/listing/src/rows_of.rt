@@ -27,9 +27,7 @@ pub fn customer_row<D>(
 ) -> Result<usize, Refusal>
     ensures { ListsCustomer (records customers.now) charges.now number name.now buffer.old result buffer.new }
 {
-    let Ok(at) = customers.find(number) else {
-        return Err(Refusal::Missing);
-    };
+    let at = customers.find(number).map_err(|_| Refusal::Missing)?;
     let records = customers.records();
     let n = records.len();
     if charges.len() < 4 * n {
@@ -45,10 +43,10 @@ pub fn customer_row<D>(
         Field::Figure(u64::from(customer.mark)),
         Field::Figure(u64::from(customer.rhwm)),
         Field::Figure(u64::from(customer.above_rhwm_load())),
-        charge(charges[at]),
-        charge(charges[n + at]),
-        charge(charges[2 * n + at]),
-        charge(charges[3 * n + at]),
+        charge(charges, n, at, Pool::Composite),
+        charge(charges, n, at, Pool::NonSlice),
+        charge(charges, n, at, Pool::Slice),
+        charge(charges, n, at, Pool::Tier2),
     ];
     rows::write(&fields, b"\n", buffer).ok_or(Refusal::NoRoom)
 }
@@ -65,21 +63,17 @@ pub fn sum_row<D>(
 ) -> Result<usize, Refusal>
     ensures { ListsSums book.now.costs book.now.credits (records customers.now) buffer.old result buffer.new }
 {
-    let (marks, rhwms, above) = sums(customers);
-    let composite = book.sides(Pool::Composite);
-    let nonslice = book.sides(Pool::NonSlice);
-    let slice = book.sides(Pool::Slice);
-    let tier2 = book.sides(Pool::Tier2);
+    let (marks, rhwms, above) = sums(customers.records());
     let fields = [
         Field::Figure(0),
         Field::Text(b"SUM"),
         Field::Figure(marks),
         Field::Figure(rhwms),
         Field::Figure(above),
-        cost(composite.0, composite.1),
-        cost(nonslice.0, nonslice.1),
-        cost(slice.0, slice.1),
-        cost(tier2.0, tier2.1),
+        cost(book, Pool::Composite),
+        cost(book, Pool::NonSlice),
+        cost(book, Pool::Slice),
+        cost(book, Pool::Tier2),
     ];
     rows::write(&fields, b"\n", buffer).ok_or(Refusal::NoRoom)
 }

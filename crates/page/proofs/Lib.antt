@@ -1,3 +1,4 @@
+pub mod Telling
 pub mod Answering
 pub mod Playing
 pub mod Adding

@@ -1,4 +1,5 @@
 pub mod Answers
+pub mod Remaining
 pub mod Pages
 pub mod Billed
 pub mod Sums

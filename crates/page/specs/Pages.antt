@@ -1,5 +1,5 @@
 -- What a page comes to: its lines one after the other, then the close and the bills.
-use Rattle.std.specs.Prelude.{◌≡◌, ℕ, ◌+◌, ◌-◌, ◌<◌, ◌≤◌, Bool, true, false, cond, List, [], ◌∷◌, map, length, take, replicate, ℤ, pos, Ok, Err, Option, Result, ◌==◌, slice_index}
+use Rattle.std.specs.Prelude.{◌≡◌, ℕ, ◌+◌, ◌-◌, ◌<◌, ◌≤◌, Bool, true, false, cond, List, [], ◌∷◌, map, length, take, replicate, ℤ, pos, Ok, Err, Result, ◌==◌, slice_index}
 use Rattle.std.specs.Borrow.{Bor}
 use Rattle.units.specs.declared.header.Header.{Header}
 use Rattle.records.specs.declared.customer.Customer.{Customer}
@@ -22,6 +22,7 @@ use Rattle.page.specs.declared.fault.Cause.{Cause}
 use Rattle.page.specs.declared.fault.Cause.TheVariants.{Page, Line, Book}
 use Rattle.page.specs.declared.fault.Fault.{Fault}
 use Rattle.page.specs.declared.fault.Refusal.{Refusal}
+use Rattle.page.specs.declared.remaining.Lines.{Lines}
 use Rattle.page.specs.declared.fault.Refusal.TheVariants.{TooLong, Unended, HeaderPlace, LateCustomer}
 
 -- What a line reads as.
@@ -76,9 +77,13 @@ LineEnters places cs (Ok (cost number p cents)) r cs' = (r ≡ Ok false) × (cs'
 LineEnters places cs (Ok (grant number load)) r cs' = (r ≡ Ok false) × (cs' ≡ cs)
 LineEnters places cs (Ok (transfer giver receiver load)) r cs' = (r ≡ Ok false) × (cs' ≡ cs)
 
+-- What lines that are left read as.
+abbrev pub readings : Lines → List Reading
+readings lines = map line_of (parts_after 10 lines.rest)
+
 -- The outcome of lines that take customers in.
-abbrev pub taken : Result (ℕ × Option (Bor (List ℕ))) Fault → List Customer → Result Taken Fault
-taken (Ok x) cs = Ok (record { customers = cs; number = x.0; rest = map line_of (parts_after 10 x.1) })
+abbrev pub taken : Result Lines Fault → List Customer → Result Taken Fault
+taken (Ok lines) cs = Ok (record { customers = cs; number = lines.number; rest = readings lines })
 taken (Err f) cs = Err f
 
 -- The first line, by what it reads as: a header's loads.

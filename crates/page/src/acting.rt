@@ -1,15 +1,15 @@
 //! Lines after the customers' act on the open book.
-ghost use Rattle.std.specs.Prelude.{◌≡◌, ◌+◌, ◌^◌, ◌≤◌, true, map, length};
-ghost use Rattle.rows.specs.Rows.{parts_after};
+ghost use Rattle.std.specs.Prelude.{◌≡◌, true};
 ghost use Rattle.units.specs.Ranges.{in_range};
 ghost use Rattle.units.specs.declared.ranges.Letter.TheVariants.{Expense, Grant};
 ghost use Rattle.register.specs.Register.{room, records};
 ghost use Rattle.book.specs.Lines.{Posts};
 ghost use Rattle.book.specs.Marks.{Grants};
 ghost use Rattle.lines.specs.Lines.{line_of};
-ghost use Rattle.page.specs.Pages.{Answered, Moves, LineActs, Plays, outcome};
+ghost use Rattle.page.specs.Pages.{Answered, Moves, LineActs, Plays, readings, outcome};
 
 use crate::fault::{Cause, Fault, Refusal};
+use crate::remaining::Lines;
 use book::{OpenBook, Posting};
 use lines::Line;
 use records::{CostLine, Customer};
@@ -28,10 +28,7 @@ fn post<D>(
     ensures done { Answered (λ a. Posts book.old (room costs.old) (records costs.old) number posting cents a book.new (records costs.new)) tt result }
     ensures places { room costs.new ≡ room costs.old }
 {
-    let Ok(amount) = Cents::new(cents) else {
-        return Err(Cause::Book(book::Refusal::OutOfRange));
-    };
-    book.post(costs, number, posting, amount)?;
+    book.post(costs, number, posting, Cents::new(cents)?)?;
     Ok(())
 }
 
@@ -45,10 +42,7 @@ fn grant<D>(
     requires { in_range Grant 3 load ≡ true }
     ensures { Answered (λ a. Grants book.old (records customers.old) number load a book.new (records customers.new)) tt result }
 {
-    let Ok(load) = Load::new(load) else {
-        return Err(Cause::Book(book::Refusal::OutOfRange));
-    };
-    book.grant(customers, number, load)?;
+    book.grant(customers, number, Load::new(load)?)?;
     Ok(())
 }
 
@@ -63,15 +57,14 @@ fn transfer<D>(
     requires { in_range Grant 3 load ≡ true }
     ensures { Answered (λ a. Moves (records customers.old) giver receiver load a (records customers.new)) tt result }
 {
-    let Ok(load) = Load::new(load) else {
-        return Err(Cause::Book(book::Refusal::OutOfRange));
-    };
-    let parcel = book.lift(customers, giver, load)?;
+    let parcel = book.lift(customers, giver, Load::new(load)?)?;
     book.land(customers, parcel, receiver)?;
     Ok(())
 }
 
 // Does what a line says.
+//
+// A call of the book borrows the book and one register, so the three stay apart.
 fn act<D>(
     book: &mut OpenBook<D>,
     line: &[u8],
@@ -98,30 +91,17 @@ fn act<D>(
     }
 }
 
-/// Does what lines say, the first of which has this number, up to the last or
-/// to a fault.
+/// Does what lines say, up to the last or to a fault.
 pub(crate) fn act_all<D>(
     book: &mut OpenBook<D>,
-    number: usize,
-    rest: Option<&[u8]>,
+    lines: Lines<'_>,
     customers: &mut Register<'_, Customer>,
     costs: &mut Register<'_, CostLine>,
 ) -> Result<(), Fault>
-    requires { number + length (parts_after 10 rest) ≤ 2 ^ 32 }
-    ensures { Plays (room costs.old) book.old (records customers.old) (records costs.old) number (map line_of (parts_after 10 rest.entry)) (outcome result book.new (records customers.new) (records costs.new)) }
+    ensures { Plays (room costs.old) book.old (records customers.old) (records costs.old) lines.entry.number (readings lines.entry) (outcome result book.new (records customers.new) (records costs.new)) }
 {
-    let mut number = number;
-    let mut rest = rest;
-    while let Some(bytes) = rest {
-        let (line, after) = rows::split(bytes, b'\n');
-        if let Err(cause) = act(book, line, customers, costs) {
-            return Err(Fault {
-                line: number,
-                cause,
-            });
-        }
-        number += 1;
-        rest = after;
+    for (number, line) in lines {
+        act(book, line, customers, costs).map_err(|cause| cause.at(number))?;
     }
     Ok(())
 }

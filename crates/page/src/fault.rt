@@ -1,30 +1,40 @@
 //! What is wrong with a page, and where.
 ghost use Rattle.std.specs.Prelude.{◌≡◌};
 ghost use Rattle.page.specs.Answers.{number, field, layer, Tells};
-ghost use Rattle.page.specs.declared.fault.Cause.TheVariants.{Line, Book};
+ghost use Rattle.page.specs.declared.fault.Cause.TheVariants.{Page, Line, Book};
+ghost use Rattle.book.specs.declared.refusal.Refusal.TheVariants.{OutOfRange};
+ghost use Rattle.page.specs.Pages.{at_line};
 
 use rows::Field;
 
 /// A question to a page that is answered no.
-#[derive(Clone, Copy)]
+#[derive(Clone, Copy, PartialEq, Eq, Debug)]
 pub enum Refusal {
     /// 1: the page has more than 65,536 bytes.
-    TooLong,
+    TooLong = 1,
     /// 2: the page does not end with byte 10.
-    Unended,
+    Unended = 2,
     /// 10: the first line is no header, or a later one is.
-    HeaderPlace,
+    HeaderPlace = 10,
     /// 11: a customer's line stands after a line of another kind.
-    LateCustomer,
+    LateCustomer = 11,
 }
 
 /// Why a page is refused: by the page itself, by one of its lines, or by the
 /// book.
-#[derive(Clone, Copy)]
+#[derive(Clone, Copy, PartialEq, Eq, Debug)]
 pub enum Cause {
     Page(Refusal),
     Line(lines::Fault),
     Book(book::Refusal),
+}
+
+impl From<Refusal> for Cause {
+    ghost from_gives = { λ e f. f ≡ Page e };
+
+    fn from(e: Refusal) -> Cause {
+        Cause::Page(e)
+    }
 }
 
 impl From<lines::Fault> for Cause {
@@ -43,16 +53,29 @@ impl From<book::Refusal> for Cause {
     }
 }
 
+/// A figure that is outside its range is refused as the book refuses it.
+impl From<units::Refusal> for Cause {
+    ghost from_gives = { λ e f. f ≡ Book OutOfRange };
+
+    fn from(e: units::Refusal) -> Cause {
+        Cause::Book(book::Refusal::from(e))
+    }
+}
+
 impl Cause {
+    /// The fault of a line for this cause.
+    pub(crate) fn at(self, line: usize) -> Fault
+        ensures { result ≡ at_line line self }
+    {
+        Fault { line, cause: self }
+    }
+
     /// The number by which the refusal is known.
     pub fn number(self) -> u8
         ensures { result ≡ number self }
     {
         match self {
-            Cause::Page(Refusal::TooLong) => 1,
-            Cause::Page(Refusal::Unended) => 2,
-            Cause::Page(Refusal::HeaderPlace) => 10,
-            Cause::Page(Refusal::LateCustomer) => 11,
+            Cause::Page(refusal) => refusal as u8,
             Cause::Line(fault) => fault.refusal.number(),
             Cause::Book(refusal) => refusal.number(),
         }
@@ -63,7 +86,7 @@ impl Cause {
         ensures { result ≡ field self }
     {
         match self {
-            Cause::Page(Refusal::HeaderPlace) | Cause::Page(Refusal::LateCustomer) => 1,
+            Cause::Page(Refusal::HeaderPlace | Refusal::LateCustomer) => 1,
             Cause::Line(fault) => fault.field,
             _ => 0,
         }
@@ -82,7 +105,8 @@ impl Cause {
 }
 
 /// The fault of a page: the line that it names, 0 for none, and the cause.
-#[derive(Clone, Copy)]
+// Line 0 and no Option, since the row of a fault writes it so.
+#[derive(Clone, Copy, PartialEq, Eq, Debug)]
 pub struct Fault {
     pub line: usize,
     pub cause: Cause,

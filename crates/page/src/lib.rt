@@ -3,6 +3,7 @@
 
 mod acting;
 mod fault;
+mod remaining;
 mod settling;
 mod taking;
 mod whole;

@@ -15,9 +15,7 @@ pub(crate) fn found<D: Divider>(
 ) -> Result<OpenBook<D>, (Intake<D>, Refusal)>
     ensures { FoundsOn D.Divider.meaning intake (records customers.old) result (records customers.new) }
 {
-    let mut weights = [0; 512];
-    let mut shares = [0; 512];
-    intake.found(customers, &mut weights, &mut shares)
+    intake.found(customers, &mut [0; 512], &mut [0; 512])
 }
 
 /// Closes a book.
@@ -27,9 +25,7 @@ pub(crate) fn close<D: Divider>(
 ) -> Result<ClosedBook<D>, (OpenBook<D>, Refusal)>
     ensures { ClosesOn D.Divider.meaning book (records customers.old) result (records customers.new) }
 {
-    let mut weights = [0; 512];
-    let mut shares = [0; 512];
-    book.close(customers, &mut weights, &mut shares)
+    book.close(customers, &mut [0; 512], &mut [0; 512])
 }
 
 // Bills a pool.
@@ -41,9 +37,7 @@ fn bill<D: Divider>(
 ) -> Result<(), Refusal>
     ensures { BillsOn D.Divider.meaning book.now (records customers.now) letter charges.old result charges.new }
 {
-    let mut weights = [0; 512];
-    let mut shares = [0; 512];
-    book.bill(customers, letter, &mut weights, &mut shares, charges)
+    book.bill(customers, letter, &mut [0; 512], &mut [0; 512], charges)
 }
 
 /// Bills the pools C, N, S and T.
@@ -54,10 +48,10 @@ pub(crate) fn bill_all<D: Divider>(
 ) -> Result<(), Refusal>
     ensures { BillsAll D.Divider.meaning book.now (records customers.now) (67 ∷ 78 ∷ 83 ∷ 84 ∷ []) charges.old result charges.new }
 {
-    bill(book, customers, 'C', charges)?;
-    bill(book, customers, 'N', charges)?;
-    bill(book, customers, 'S', charges)?;
-    bill(book, customers, 'T', charges)
+    for letter in ['C', 'N', 'S', 'T'] {
+        bill(book, customers, letter, charges)?;
+    }
+    Ok(())
 }
 
 /// Closes a book, and bills the pools C, N, S and T.
@@ -68,10 +62,7 @@ pub(crate) fn settle<D: Divider + Drop>(
 ) -> Result<ClosedBook<D>, Refusal>
     ensures { Settles D.Divider.meaning book (records customers.old) charges.old result (records customers.new) charges.new }
 {
-    let closed = match close(book, customers) {
-        Ok(closed) => closed,
-        Err(back) => return Err(back.1),
-    };
+    let closed = close(book, customers).map_err(|(_, refusal)| refusal)?;
     bill_all(&closed, customers, charges)?;
     Ok(closed)
 }

@@ -1,11 +1,11 @@
 //! The header, and the customers' lines.
-ghost use Rattle.std.specs.Prelude.{◌≡◌, ◌+◌, ◌^◌, ◌≤◌, map, length};
+ghost use Rattle.std.specs.Prelude.{◌≡◌};
 ghost use Rattle.register.specs.Register.{room, records};
-ghost use Rattle.rows.specs.Rows.{parts_after};
 ghost use Rattle.lines.specs.Lines.{line_of};
-ghost use Rattle.page.specs.Pages.{Heads, LineEnters, Takes, taken};
+ghost use Rattle.page.specs.Pages.{Heads, LineEnters, Takes, readings, taken};
 
 use crate::fault::{Cause, Fault, Refusal};
+use crate::remaining::Lines;
 use book::Intake;
 use lines::Line;
 use records::Customer;
@@ -20,10 +20,7 @@ pub(crate) fn header_of(line: &[u8]) -> Result<Header, Cause>
         Line::Header {
             founding_total,
             capability,
-        } => match Header::new(founding_total, capability) {
-            Ok(header) => Ok(header),
-            Err(_) => Err(Cause::Page(Refusal::HeaderPlace)),
-        },
+        } => Ok(Header::new(founding_total, capability)?),
         _ => Err(Cause::Page(Refusal::HeaderPlace)),
     }
 }
@@ -47,35 +44,21 @@ fn enter_line<D>(
     }
 }
 
-/// Enters the customers of lines from the second line on, up to the first
-/// that is not a customer's, and answers its number and the lines from it on.
+/// Enters the customers of lines, up to the first that is not a customer's,
+/// and answers the lines from it on.
 pub(crate) fn enter_all<'a, D>(
     intake: &Intake<D>,
-    rest: Option<&'a [u8]>,
+    mut lines: Lines<'a>,
     customers: &mut Register<'_, Customer>,
-) -> Result<(usize, Option<&'a [u8]>), Fault>
-    requires { length (parts_after 10 rest) ≤ 2 ^ 31 }
-    ensures { Takes (room customers.old) (records customers.old) 2 (map line_of (parts_after 10 rest.entry)) (taken result (records customers.new)) }
+) -> Result<Lines<'a>, Fault>
+    ensures { Takes (room customers.old) (records customers.old) lines.entry.number (readings lines.entry) (taken result (records customers.new)) }
 {
-    let mut number = 2;
-    let mut rest = rest;
-    while let Some(bytes) = rest {
-        let (line, after) = rows::split(bytes, b'\n');
-        match enter_line(intake, line, customers) {
-            Ok(entered) => {
-                if !entered {
-                    return Ok((number, rest));
-                }
-                number += 1;
-                rest = after;
-            }
-            Err(cause) => {
-                return Err(Fault {
-                    line: number,
-                    cause,
-                });
-            }
+    let mut after = lines;
+    while let Some((number, line)) = after.next() {
+        if !enter_line(intake, line, customers).map_err(|cause| cause.at(number))? {
+            break;
         }
+        lines = after;
     }
-    Ok((number, None))
+    Ok(lines)
 }

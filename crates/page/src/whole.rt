@@ -9,35 +9,13 @@ ghost use Rattle.page.specs.Sums.{All_adds_up};
 
 use crate::acting::act_all;
 use crate::fault::{Cause, Fault, Refusal};
+use crate::remaining::Lines;
 use crate::settling::{found, settle};
 use crate::taking::{enter_all, header_of};
 use book::{ClosedBook, Intake};
 use divider::Divider;
-use records::{CostLine, Customer, Entry, Pool};
+use records::{CostLine, Customer};
 use register::Register;
-
-// What a place for a cost line holds before one is written there.
-const NO_LINE: CostLine = CostLine {
-    number: 0,
-    entry: Entry::Expense(Pool::Composite),
-    cents: 0,
-};
-
-// What a place for a customer holds before one is written there.
-const NOBODY: Customer = Customer {
-    number: 0,
-    measured: 0,
-    founding: 0,
-    conservation: 0,
-    retail: 0,
-    large: 0,
-    resources: 0,
-    elected: 0,
-    slice: 0,
-    mark: 0,
-    transit: 0,
-    rhwm: 0,
-};
 
 // A page without its last byte, which ends it.
 fn body(page: &[u8]) -> Result<&[u8], Refusal>
@@ -46,10 +24,7 @@ fn body(page: &[u8]) -> Result<&[u8], Refusal>
     if page.len() > 65_536 {
         return Err(Refusal::TooLong);
     }
-    if page.is_empty() || page[page.len() - 1] != b'\n' {
-        return Err(Refusal::Unended);
-    }
-    Ok(&page[..page.len() - 1])
+    page.strip_suffix(b"\n").ok_or(Refusal::Unended)
 }
 
 // Does what the lines after the header say, and settles the book at the last.
@@ -63,31 +38,18 @@ fn lead<D: Divider + Drop>(
     requires { (last ≡ length (parts_after 10 rest) + 1) × (last ≤ 2 ^ 31) }
     ensures { Leads D.Divider.meaning (room customers.old) 512 intake (records customers.old) charges.old (map line_of (parts_after 10 rest.entry)) result (records customers.new) charges.new }
 {
-    let (number, rest) = enter_all(&intake, rest, customers)?;
-    let mut book = match found(intake, customers) {
-        Ok(book) => book,
-        Err(back) => {
-            let line = if rest.is_some() { number } else { number - 1 };
-            return Err(Fault {
-                line,
-                cause: Cause::Book(back.1),
-            });
-        }
-    };
-    let mut memory = [NO_LINE; 512];
+    let lines = enter_all(&intake, Lines { number: 2, rest }, customers)?;
+    let line = lines.number.min(last);
+    let mut book = found(intake, customers).map_err(|(_, refusal)| Cause::Book(refusal).at(line))?;
+    let mut memory = [CostLine::BLANK; 512];
     let mut costs = Register::new(&mut memory);
-    act_all(&mut book, number, rest, customers, &mut costs)?;
-    match settle(book, customers, charges) {
-        Ok(closed) => Ok(closed),
-        Err(refusal) => Err(Fault {
-            line: last,
-            cause: Cause::Book(refusal),
-        }),
-    }
+    act_all(&mut book, lines, customers, &mut costs)?;
+    settle(book, customers, charges).map_err(|refusal| Cause::Book(refusal).at(last))
 }
 
 /// A closed and billed book, with the records of its customers, which are the
 /// first `standing` of `customers`, and their charges.
+// Memory and how many records stand in it, as `Register::of` takes them.
 #[derive(Drop)]
 pub struct Billed<D> {
     pub book: ClosedBook<D>,
@@ -112,29 +74,19 @@ pub fn bill_page<D: Divider + Drop>(divider: D, page: &[u8]) -> Result<Billed<D>
     ensures comes { ComesTo D.Divider.meaning divider page.now (closed_as result) }
     ensures sums { All_adds_up page.now (closed_as result) }
 {
-    let body = match body(page) {
-        Ok(body) => body,
-        Err(refusal) => {
-            return Err(Fault {
-                line: 0,
-                cause: Cause::Page(refusal),
-            });
-        }
-    };
+    let body = body(page).map_err(|refusal| Cause::from(refusal).at(0))?;
     let (first, rest) = rows::split(body, b'\n');
-    let header = match header_of(first) {
-        Ok(header) => header,
-        Err(cause) => return Err(Fault { line: 1, cause }),
-    };
+    let header = header_of(first).map_err(|cause| cause.at(1))?;
     let last = rows::separators(body, b'\n') + 1;
     let intake = Intake::new(divider, header);
-    let mut memory = [NOBODY; 512];
+    // Fixed memory and no Vec: a page is billed without a heap.
+    let mut memory = [Customer::BLANK; 512];
     let mut customers = Register::new(&mut memory);
     let mut charges = [0; 2048];
     let book = lead(intake, rest, last, &mut customers, &mut charges)?;
     let records = customers.records();
     let standing = records.len();
-    let mut listed = [NOBODY; 512];
+    let mut listed = [Customer::BLANK; 512];
     listed[..standing].copy_from_slice(records);
     Ok(Billed {
         book,

@@ -14,50 +14,29 @@ mod tests {
 
     // A page is refused with this row, and the buffer keeps what it held past it.
     fn refused(rt: &impl Abort, page: &[u8], row: &[u8]) -> Result<(), Fail> {
-        match bill_page(LargestRemainder, page) {
-            Ok(_) => {
-                assert!(rt; false);
-                Ok(())
-            },
-            Err(fault) => {
-                let mut buffer = [7; 64];
-                match fault_row(fault, &mut buffer) {
-                    Ok(count) => {
-                        assert!(rt; count == row.len());
-                        for (i, byte) in buffer.iter().enumerate() {
-                            let wanted = if i < row.len() { row[i] } else { 7 };
-                            assert!(rt; *byte == wanted);
-                        }
-                        Ok(())
-                    }
-                    Err(_) => {
-                        assert!(rt; false);
-                        Ok(())
-                    },
-                }
-            }
-        }
+        let fault = bill_page(LargestRemainder, page)
+            .err()
+            .ok_or("the page is billed")?;
+        let mut buffer = [7; 64];
+        let count = fault_row(fault, &mut buffer)?;
+        assert_eq!(rt; count, row.len());
+        assert!(rt; buffer.starts_with(row));
+        assert!(rt; buffer.iter().skip(count).all(|byte| *byte == 7));
+        Ok(())
     }
 
     #[test]
     fn bills_the_worked_page(rt: HostRuntime) -> Result<(), Fail> {
-        match bill_page(LargestRemainder, WORKED) {
-            Ok(billed) => {
-                assert_eq!(rt; billed.standing, 3);
-                assert_eq!(rt; billed.customers[0].mark, 51);
-                assert_eq!(rt; billed.customers[1].rhwm, 29);
-                assert_eq!(rt; billed.customers[2].mark, 20);
-                assert_eq!(rt; billed.charges[0], 479);
-                assert_eq!(rt; billed.charges[4], 5);
-                assert_eq!(rt; billed.charges[11], 23);
-                assert_eq!(rt; billed.charges[12], 0);
-                Ok(())
-            }
-            Err(_) => {
-                assert!(rt; false);
-                Ok(())
-            },
-        }
+        let billed = bill_page(LargestRemainder, WORKED)?;
+        assert_eq!(rt; billed.standing, 3);
+        assert_eq!(rt; billed.customers[0].mark, 51);
+        assert_eq!(rt; billed.customers[1].rhwm, 29);
+        assert_eq!(rt; billed.customers[2].mark, 20);
+        assert_eq!(rt; billed.charges[0], 479);
+        assert_eq!(rt; billed.charges[4], 5);
+        assert_eq!(rt; billed.charges[11], 23);
+        assert_eq!(rt; billed.charges[12], 0);
+        Ok(())
     }
 
     #[test]

@@ -1,5 +1,6 @@
 -- Rows that fit, and numbers that are small.
-use Rattle.std.proofs.Common.{◌≡◌, ℕ, ◌*◌, ◌^◌, ◌<◌, ◌≤◌, Bool, true, false, leb, List, [], ◌∷◌, length, ℤ, is_some, Ok, Result, ⊎_elim, arith}
+use Rattle.std.proofs.Common.{◌≡◌, ℕ, ◌*◌, ◌^◌, ◌<◌, ◌≤◌, Bool, true, false, leb, List, [], ◌∷◌, length, ℤ, is_some, Ok, Err, Result, ⊎_elim, arith}
+use Rattle.std.specs.Result.{result_unwrap_or}
 use Rattle.std.proofs.lemmas.Bool.{cases_Bool, and_parts, leb-true}
 use Rattle.units.specs.Ranges.{in_range}
 use Rattle.units.specs.declared.ranges.Letter.TheVariants.{Customer}
@@ -8,10 +9,9 @@ use Rattle.book.specs.declared.figures.Figures.{Figures}
 use Rattle.records.specs.declared.customer.Customer.{Customer as Record}
 use Rattle.register.specs.Records.{lookup}
 use Rattle.book.specs.Customers.{key}
-use Rattle.book.specs.declared.sides.Sides.{Sides}
 use Rattle.lines.specs.Questions.{a_name}
 use Rattle.listing.specs.Answers.{told}
-use Rattle.listing.specs.Listing.{customer_row, sum_row, ListsCustomer, ListsSums}
+use Rattle.listing.specs.Listing.{customer_row, ListsCustomer}
 use Rattle.listing.specs.declared.refusal.Refusal.TheVariants.{Missing, ShortSheet, NotAName, NoRoom}
 use Rattle.listing.specs.declared.refusal.Refusal.{Refusal}
 
@@ -47,11 +47,8 @@ row_fits : (n x room : ℕ) (a b c : Bool) (d e f g : Refusal) → Ok n ≡ told
 row_fits n x room a b c d e f g is =
     one_fits n x room g (yes n x c f ((leb x room, g) ∷ []) (yes n x b e ((c, f) ∷ (leb x room, g) ∷ []) (yes n x a d ((b, e) ∷ (c, f) ∷ (leb x room, g) ∷ []) is).1).1).1
 
--- a row that was written fits the buffer
-pub customer_fits : (cs : List Record) (charges : List ℤ) (n : ℕ) (name buffer : List ℕ) (k : ℕ) (buffer' : List ℕ) → ListsCustomer cs charges n name buffer (Ok k) buffer' → k ≤ length buffer
-customer_fits cs charges n name buffer k buffer' w =
+-- what is written of a customer fits the buffer
+pub customer_fits : (cs : List Record) (charges : List ℤ) (n : ℕ) (name buffer : List ℕ) (r : Result ℕ Refusal) (buffer' : List ℕ) → ListsCustomer cs charges n name buffer r buffer' → result_unwrap_or r 0 ≤ length buffer
+customer_fits cs charges n name buffer (Ok k) buffer' w =
     row_fits k (length (customer_row cs charges n name)) (length buffer) (is_some (lookup key n cs)) (leb (4 * length cs) (length charges)) (a_name name) Missing ShortSheet NotAName NoRoom w.answer
-
-pub sums_fit : (costs credits : Sides) (cs : List Record) (buffer : List ℕ) (k : ℕ) (buffer' : List ℕ) → ListsSums costs credits cs buffer (Ok k) buffer' → k ≤ length buffer
-sums_fit costs credits cs buffer k buffer' w =
-    one_fits k (length (sum_row costs credits cs)) (length buffer) NoRoom w.answer
+customer_fits cs charges n name buffer (Err e) buffer' w = omega arith

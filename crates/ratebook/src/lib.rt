@@ -7,6 +7,7 @@ mod reading;
 mod sentence;
 
 use divider::Divider;
+use sentence::Sentence;
 use std::io::Write;
 use std::process::ExitCode;
 use std::{env, io};
@@ -23,10 +24,8 @@ example: ratebook-largest < examples/worked.page";
 
 // Whether the first word asks for help.
 fn asks_help(rt: &HostRuntime) -> io::Result<bool> {
-    for word in env::args(rt)?.skip(1) {
-        return Ok(word.as_str() == "--help");
-    }
-    Ok(false)
+    let first = env::args(rt)?.nth(1);
+    Ok(first.is_some_and(|word| word.as_str() == "--help"))
 }
 
 // Prints all bytes.
@@ -40,6 +39,7 @@ pub fn run<D: Divider + Drop>(rt: &HostRuntime, divider: D, name: &str) -> io::R
         eprintln!(rt; "usage: {name} < PAGE\n\n{name} {USAGE}")?;
         return Ok(ExitCode::SUCCESS);
     }
+    // Fixed memory and no Vec: what a page takes at most is known, and can't run out.
     let mut memory = [0; 65_537];
     let length = reading::read_page(rt, &mut memory)?;
     let page = &memory[..length];
@@ -54,7 +54,7 @@ pub fn run<D: Divider + Drop>(rt: &HostRuntime, divider: D, name: &str) -> io::R
             if let Ok(count) = page::fault_row(fault, &mut output) {
                 print_bytes(rt, &output[..count])?;
             }
-            sentence::tell(rt, name, page, fault)?;
+            eprintln!(rt; "{name}: {}", Sentence { page, fault })?;
             Ok(ExitCode::FAILURE)
         }
     }

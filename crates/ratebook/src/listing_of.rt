@@ -19,23 +19,18 @@ fn write_row<D>(
 ) -> usize
     ensures { result ≤ length output.old }
 {
-    let Ok(line) = lines::read(line) else {
+    let Ok(Line::Customer { name, figures }) = lines::read(line) else {
         return 0;
     };
-    let Line::Customer { name, figures } = line else {
-        return 0;
-    };
-    match customer_row(
+    customer_row(
         book,
         customers,
         charges,
         figures.number as u32,
         name,
         output,
-    ) {
-        Ok(count) => count,
-        Err(_) => 0,
-    }
+    )
+    .unwrap_or(0)
 }
 
 /// Writes the rows of a page's customers, in the order of the page, and the
@@ -45,6 +40,7 @@ pub(crate) fn write_listing<D>(billed: &mut Billed<D>, page: &[u8], output: &mut
 {
     let customers = Register::of(&mut billed.customers, billed.standing);
     let mut at = 0;
+    // No `for` over `page.split(..)`: in a generic function it takes no invariant.
     let mut rest = Some(page);
     while let Some(bytes) = rest {
         let (line, after) = rows::split(bytes, b'\n');
@@ -57,8 +53,5 @@ pub(crate) fn write_listing<D>(billed: &mut Billed<D>, page: &[u8], output: &mut
         );
         rest = after;
     }
-    match sum_row(&billed.book, &customers, &mut output[at..]) {
-        Ok(count) => at + count,
-        Err(_) => at,
-    }
+    at + sum_row(&billed.book, &customers, &mut output[at..]).unwrap_or(0)
 }

@@ -9,6 +9,7 @@ use std::io::Read;
 pub(crate) fn read_page(rt: &HostRuntime, buffer: &mut [u8]) -> io::Result<usize>
     ensures { IfOk result (λ n. n ≤ length buffer.old) }
 {
+    // The readers of std that go on to the end fill a `Vec`, or ask for a full buffer.
     let mut at = 0;
     let end = buffer.len();
     let mut input = rt.stdin();

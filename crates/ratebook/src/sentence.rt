@@ -1,38 +1,29 @@
 //! What is wrong with a page, in words.
 use page::{Cause, Fault, Refusal};
-use std::io;
+use std::fmt;
 use std::str::from_utf8;
 
-// The part at a place of some bytes, from 1 on.
+// The part at a place of some bytes, from 1 on; none past the last.
 fn part(bytes: &[u8], separator: u8, place: usize) -> &[u8] {
-    let (mut first, mut rest) = rows::split(bytes, separator);
-    for _ in 1..place {
-        match rest {
-            Some(left) => {
-                let (next, after) = rows::split(left, separator);
-                first = next;
-                rest = after;
-            }
-            None => return b"",
-        }
-    }
-    first
+    bytes
+        .split(|byte| *byte == separator)
+        .nth(place.saturating_sub(1))
+        .unwrap_or(b"")
 }
 
 // Why bytes are no figure.
 fn figure_words(bytes: &[u8]) -> &'static str {
     if bytes.is_empty() {
-        return "nothing stands where a figure is wanted";
+        "nothing stands where a figure is wanted"
+    } else if bytes.iter().all(u8::is_ascii_digit) {
+        "a figure has no leading zero"
+    } else {
+        "a figure has digits only, without signs, points or spaces"
     }
-    for byte in bytes {
-        if *byte < b'0' || *byte > b'9' {
-            return "a figure has digits only, without signs, points or spaces";
-        }
-    }
-    "a figure has no leading zero"
 }
 
-// What is wrong with a line.
+// What is wrong with a line. The texts stand here and in no Display of the
+// refusals, which would be public, with no contract on what it prints.
 fn line_words(refusal: lines::Refusal, bytes: &[u8]) -> &'static str {
     match refusal {
         lines::Refusal::UnknownLetter => "a line begins with H, C, E, R, A, G or T and a comma",
@@ -81,31 +72,30 @@ fn book_words(refusal: book::Refusal) -> &'static str {
     }
 }
 
-/// Says what is wrong and where.
-pub(crate) fn tell(rt: &HostRuntime, name: &str, page: &[u8], fault: Fault) -> io::Result<()> {
-    let line = fault.line;
-    match fault.cause {
-        Cause::Page(refusal) => {
-            let words = page_words(refusal);
-            if line == 0 {
-                return eprintln!(rt; "{name}: {words}");
-            }
-            eprintln!(rt; "{name}: line {line}, field 1: {words}")
-        }
-        Cause::Line(at) => {
-            let field = at.field;
-            let bytes = part(part(page, b'\n', line), b',', field);
-            let words = line_words(at.refusal, bytes);
-            match from_utf8(bytes) {
-                Ok(text) if field > 0 => {
-                    eprintln!(rt; "{name}: line {line}, field {field}: {text}: {words}")
+/// What is wrong with a page, and where, in a sentence.
+#[derive(Clone, Copy)]
+pub(crate) struct Sentence<'a> {
+    pub(crate) page: &'a [u8],
+    pub(crate) fault: Fault,
+}
+
+impl fmt::Display for Sentence<'_> {
+    fn fmt<W: fmt::Write>(&self, f: &mut fmt::Formatter<W>) -> fmt::Result {
+        let line = self.fault.line;
+        match self.fault.cause {
+            Cause::Page(refusal) if line == 0 => write!(f, "{}", page_words(refusal)),
+            Cause::Page(refusal) => write!(f, "line {line}, field 1: {}", page_words(refusal)),
+            Cause::Line(lines::Fault { field, refusal }) => {
+                let bytes = part(part(self.page, b'\n', line), b',', field);
+                let words = line_words(refusal, bytes);
+                match from_utf8(bytes) {
+                    Ok(text) if field > 0 => {
+                        write!(f, "line {line}, field {field}: {text}: {words}")
+                    }
+                    _ => write!(f, "line {line}: {words}"),
                 }
-                _ => eprintln!(rt; "{name}: line {line}: {words}"),
             }
-        }
-        Cause::Book(refusal) => {
-            let words = book_words(refusal);
-            eprintln!(rt; "{name}: line {line}: {words}")
+            Cause::Book(refusal) => write!(f, "line {line}: {}", book_words(refusal)),
         }
     }
 }

@@ -20,6 +20,15 @@ pub struct CostLine {
     pub cents: u64,
 }
 
+impl CostLine {
+    /// A line of no number and no cents, for places that a register has not written yet.
+    pub const BLANK: CostLine = CostLine {
+        number: 0,
+        entry: Entry::Expense(Pool::Composite),
+        cents: 0,
+    };
+}
+
 impl Keyed for CostLine {
     ghost key = { λ l. l.number };
 

@@ -27,6 +27,24 @@ pub struct Customer {
     pub rhwm: u32,
 }
 
+impl Customer {
+    /// A record of zeros, for places that a register has not written yet.
+    pub const BLANK: Customer = Customer {
+        number: 0,
+        measured: 0,
+        founding: 0,
+        conservation: 0,
+        retail: 0,
+        large: 0,
+        resources: 0,
+        elected: 0,
+        slice: 0,
+        mark: 0,
+        transit: 0,
+        rhwm: 0,
+    };
+}
+
 impl Keyed for Customer {
     ghost key = { λ c. c.number };
 

@@ -12,7 +12,7 @@ impl Customer {
     pub fn founding_weight(&self) -> u64
         ensures { result ≡ founding_weight self.now }
     {
-        self.measured.saturating_sub(self.founding) as u64 + self.conservation as u64
+        u64::from(self.measured.saturating_sub(self.founding)) + u64::from(self.conservation)
     }
 
     /// The retail load less new large loads and resources, but not below 0.
@@ -55,12 +55,13 @@ impl Customer {
             Pool::Slice => self.slice_part(),
             Pool::Tier2 => self.elected.min(self.above_rhwm_load()),
         };
-        weight as u64
+        u64::from(weight)
     }
 }
 
 impl Pool {
     /// The pool of a letter: C, N, S or T.
+    // An Option and no TryFrom, since each caller has a refusal of its own.
     pub fn of(letter: char) -> Option<Pool>
         ensures { result ≡ pool_of letter }
     {
@@ -77,11 +78,6 @@ impl Pool {
     pub fn order(self) -> usize
         ensures { result ≡ order self }
     {
-        match self {
-            Pool::Composite => 0,
-            Pool::NonSlice => 1,
-            Pool::Slice => 2,
-            Pool::Tier2 => 3,
-        }
+        self as usize
     }
 }

@@ -1,9 +1,10 @@
 -- A register after a change, from what its memory and its count are then.
-use Rattle.std.proofs.Common.{◌≡◌, ℕ, ◌<◌, min, Bool, false, eqb, List, ◌++◌, length, get_or, take, drop, is_some, is_ok, Some, None, Ok, Err, Option, Result, sym, refl, ap, ◌∙◌, subst, arith}
-use Rattle.std.proofs.lemmas.List.{length-append, length-drop, length-take, get_or-take, take_at, drop_at, take-append-drop}
+use Rattle.std.proofs.Common.{◌≡◌, ℕ, ◌<◌, ◌≤◌, min, Bool, false, eqb, List, ◌++◌, length, get_or, set, take, drop, is_some, is_ok, Some, None, Ok, Err, Option, Result, sym, refl, ap, ◌∙◌, subst, arith}
+use Rattle.std.proofs.lemmas.List.{length-append, length-drop, length-take, length-set, get_or-take, take_at, drop_at, take-append-drop}
 use Rattle.std.proofs.lemmas.Bool.{eqb-false}
+use Rattle.register.proofs.Laid.{put_laid}
 use Rattle.register.specs.Records.{InOrder}
-use Rattle.register.specs.Register.{memory, usable, room, count, records, laid, Sought, Untouched, Kept}
+use Rattle.register.specs.Register.{memory, usable, room, count, records, laid, Sought, Kept}
 use Rattle.register.specs.declared.Register.{Register}
 use Rattle.register.specs.declared.refusal.Refusal.{Refusal}
 
@@ -16,11 +17,6 @@ module _ {R : Type 0} where
   pub none_there : (o : Option R) → is_some o ≡ false → o ≡ None
   none_there None h = refl
   none_there (Some x) h = grind arith
-
-  -- a call that changed nothing, whatever it answers
-  pub untouched_same : {T : Type 0} (r : Result T Refusal) (reg : Register R) → Untouched r reg reg
-  untouched_same (Ok x) reg = tt
-  untouched_same (Err e) reg = refl
 
   pub length-records : (reg : Register R) → length (records reg) ≡ count reg
   length-records reg = omega (arith, length-take (count reg) (memory reg))
@@ -52,6 +48,17 @@ module _ {R : Type 0} where
         order = λ o. q.order (p.order o);
         lender = q.lender ∙ p.lender;
       }
+
+  -- one record put over another
+  pub put_over : (before : Register R) (at : ℕ) (row : R) (ys : List R) → at < length (records before) → set (records before) at row ≡ ys
+      → (set (memory before) at row ≡ laid ys (memory before)) × (count before ≡ length ys)
+  put_over before at row ys lt is =
+      let long = length-records before in
+      let below : at < count before = omega arith in
+      let within : count before ≤ length (memory before) = omega arith in (
+        put_laid (memory before) (count before) at row within below ∙ ap (λ (t : List R). laid t (memory before)) is,
+        sym (ap length (sym is) ∙ length-set (records before) at row ∙ long),
+      )
 
   -- the memory and the count once the records are ys
   module _ (before : Register R) (mem : List R) (standing : ℕ) (ys : List R) (new : mem ≡ laid ys (memory before)) (stand : min standing (room before) ≡ length ys) where

@@ -1,28 +1,22 @@
 -- What holds of every record, after a change.
-use Rattle.std.proofs.Common.{◌≡◌, ℕ, zero, suc, eqb, ltb, List, [], ◌∷◌, Some, ◌∙◌, subst, arith}
+use Rattle.std.proofs.Common.{◌≡◌, ℕ, zero, suc, List, [], ◌∷◌, Some, ◌∙◌, subst, arith}
 use Rattle.std.specs.List.{AllByRecursion, slice_get}
-use Rattle.std.proofs.lemmas.Bool.{cond_both}
+use Rattle.std.proofs.lemmas.Bool.Decides.{nat_tests}
 use Rattle.register.specs.Records.{lookup, added, without, replaced, place_of}
 use Rattle.register.proofs.Found.{nth_place_of}
 
 module _ {R : Type 0} (key : R → ℕ) (P : R → Type 0) where
   pub all_added : (row : R) (xs : List R) → P row → AllByRecursion P xs → AllByRecursion P (added key row xs)
   all_added row [] here all = (here, tt)
-  all_added row (x ∷ xs) here all =
-      cond_both (ltb (key row) (key x)) (row ∷ x ∷ xs) (x ∷ added key row xs) (λ (t : List R). AllByRecursion P t)
-      (λ _. (here, all)) (λ _. (all.0, all_added row xs here all.1))
+  all_added row (x ∷ xs) here all = let ih = all_added row xs here all.1 in grind (arith, nat_tests)
 
   pub all_without : (n : ℕ) (xs : List R) → AllByRecursion P xs → AllByRecursion P (without key n xs)
   all_without n [] all = tt
-  all_without n (x ∷ xs) all =
-      cond_both (eqb (key x) n) xs (x ∷ without key n xs) (λ (t : List R). AllByRecursion P t)
-      (λ _. all.1) (λ _. (all.0, all_without n xs all.1))
+  all_without n (x ∷ xs) all = let ih = all_without n xs all.1 in grind (arith, nat_tests)
 
   pub all_replaced : (row : R) (xs : List R) → P row → AllByRecursion P xs → AllByRecursion P (replaced key row xs)
   all_replaced row [] here all = tt
-  all_replaced row (x ∷ xs) here all =
-      cond_both (eqb (key x) (key row)) (row ∷ xs) (x ∷ replaced key row xs) (λ (t : List R). AllByRecursion P t)
-      (λ _. (here, all.1)) (λ _. (all.0, all_replaced row xs here all.1))
+  all_replaced row (x ∷ xs) here all = let ih = all_replaced row xs here all.1 in grind (arith, nat_tests)
 
   pub all_nth : (i : ℕ) (x : R) (xs : List R) → AllByRecursion P xs → slice_get xs i ≡ Some x → P x
   all_nth i x [] all at = absurd (let z : ◌≡◌ {A = ℕ} 0 1 = cc in omega arith)

@@ -4,5 +4,4 @@ pub mod Found
 pub mod Laid
 pub mod Lookups
 pub mod Order
-mod Steps
 pub mod Sums

@@ -1,6 +1,7 @@
 -- The sum of a figure over the records, after a change.
-use Rattle.std.proofs.Common.{◌≡◌, ℕ, ◌+◌, true, false, cond, eqb, ltb, List, [], ◌∷◌, set, Some, sum_by, ap, ◌∙◌, arith}
+use Rattle.std.proofs.Common.{◌≡◌, ℕ, ◌+◌, ltb, List, [], ◌∷◌, set, Some, sum_by, ap, ◌∙◌, arith}
 use Rattle.std.proofs.lemmas.List.Sums.{sum_by-cons, sum_by-set}
+use Rattle.std.proofs.lemmas.Bool.Decides.{nat_tests}
 use Rattle.std.proofs.lemmas.Bool.{cond_both}
 use Rattle.register.specs.Records.{lookup, added, without, replaced, lookup_at, replaced_at}
 use Rattle.register.proofs.Lookups.{lookup_at_stands, replaced_at-set}
@@ -15,19 +16,11 @@ module _ {R : Type 0} (key f : R → ℕ) where
 
   pub sum_by-without : (n : ℕ) (x : R) (xs : List R) → lookup key n xs ≡ Some x → sum_by f (without key n xs) + f x ≡ sum_by f xs
   sum_by-without n x [] h = grind arith
-  sum_by-without n x (y ∷ ys) h =
-      (elim (eqb (key y) n) as (λ b. cond b (Some y) (lookup key n ys) ≡ Some x → sum_by f (cond b ys (y ∷ without key n ys)) + f x ≡ sum_by f (y ∷ ys)) [
-        | true ↦ λ found. let e : y ≡ x = cc in omega (arith, sum_by-cons f y ys, ap f e)
-        | false ↦ λ found. omega (arith, sum_by-cons f y ys, sum_by-cons f y (without key n ys), sum_by-without n x ys found)
-      ]) h
+  sum_by-without n x (y ∷ ys) h = let ih = sum_by-without n x ys in grind (arith, nat_tests, sum_by-cons)
 
   pub sum_by-replaced : (row x : R) (xs : List R) → lookup key (key row) xs ≡ Some x → sum_by f (replaced key row xs) + f x ≡ sum_by f xs + f row
   sum_by-replaced row x [] h = grind arith
-  sum_by-replaced row x (y ∷ ys) h =
-      (elim (eqb (key y) (key row)) as (λ b. cond b (Some y) (lookup key (key row) ys) ≡ Some x → sum_by f (cond b (row ∷ ys) (y ∷ replaced key row ys)) + f x ≡ sum_by f (y ∷ ys) + f row) [
-        | true ↦ λ found. let e : y ≡ x = cc in omega (arith, sum_by-cons f y ys, sum_by-cons f row ys, ap f e)
-        | false ↦ λ found. omega (arith, sum_by-cons f y ys, sum_by-cons f y (replaced key row ys), sum_by-replaced row x ys found)
-      ]) h
+  sum_by-replaced row x (y ∷ ys) h = let ih = sum_by-replaced row x ys in grind (arith, nat_tests, sum_by-cons)
 
   pub sum_by-replaced_at : (i : ℕ) (row x : R) (xs : List R) → lookup_at key i (key row) xs ≡ Some x → sum_by f (replaced_at key i row xs) + f x ≡ sum_by f xs + f row
   sum_by-replaced_at i row x xs h =

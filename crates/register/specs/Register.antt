@@ -49,6 +49,7 @@ Admitted key places row xs (Err Taken) = (length xs < places) × (is_some (looku
 Admitted key places row xs (Err Missing) = ⊥
 
 -- A call that refuses leaves the register as it was: every place, and the count.
+-- Each call has this, `Kept`, its answer and its records in clauses of their own, since callers cite them one by one.
 abbrev pub Untouched : {R T : Type 0} → Result T Refusal → Register R → Register R → Type 0
 Untouched (Ok _) before after = Unit {0}
 Untouched (Err _) before after = after ≡ before

@@ -15,6 +15,7 @@ mod refusal;
 mod slices;
 
 pub use refusal::Refusal;
+use std::mem;
 
 /// The most places that a register uses of its memory.
 pub const PLACES: usize = 512;
@@ -31,6 +32,9 @@ pub trait Keyed: Copy {
 }
 
 /// Records of one kind, in rising order of their numbers, no number twice.
+// A slice that is lent and a count, and no Vec: a register allocates nothing, and any memory will do.
+// No Model: the calls promise the memory and its lender beside the records, so the view would be the
+// fields again. Rising order is no invariant, since `of` takes any records.
 #[derive(Drop)]
 pub struct Register<'a, R> {
     places: &'a mut [R],
@@ -89,9 +93,16 @@ impl<'a, R: Keyed> Register<'a, R> {
     pub fn records(&self) -> &[R]
         ensures { result.now ≡ records self.now }
     {
-        let standing = self.len();
-        let places = &*self.places;
-        &places[0..standing]
+        &self.places[..self.len()]
+    }
+
+    /// The place of the record of a number in the order.
+    ///
+    /// Refuses with `Missing` where none stands.
+    pub fn find(&self, number: u32) -> Result<usize, Refusal>
+        ensures { Placed R.Keyed.key number (records self.now) result }
+    {
+        slices::place_of(self.records(), number).ok_or(Refusal::Missing)
     }
 
     /// The record of the number.
@@ -101,8 +112,7 @@ impl<'a, R: Keyed> Register<'a, R> {
         ensures { Sought (lookup R.Keyed.key number (records self.now)) result }
     {
         let at = self.find(number)?;
-        let records = self.records();
-        Ok(records[at])
+        Ok(self.records()[at])
     }
 
     /// Adds a record, in its place by its number.
@@ -119,7 +129,8 @@ impl<'a, R: Keyed> Register<'a, R> {
             return Err(Refusal::Full);
         }
         let number = row.number();
-        if self.get(number).is_ok() {
+        // The records may be in any order, so the number is looked for among all of them first.
+        if self.find(number).is_ok() {
             return Err(Refusal::Taken);
         }
         let standing = self.len();
@@ -139,10 +150,8 @@ impl<'a, R: Keyed> Register<'a, R> {
         ensures kept { Kept R.Keyed.key self.old self.new }
     {
         let at = self.find(number)?;
-        let records = self.records();
-        let standing = records.len();
-        let old = records[at];
-        slices::remove_at(self.places, standing, at);
+        let standing = self.len();
+        let old = slices::remove_at(self.places, standing, at);
         self.standing = standing - 1;
         Ok(old)
     }
@@ -157,7 +166,7 @@ impl<'a, R: Keyed> Register<'a, R> {
         ensures kept { Kept R.Keyed.key self.old self.new }
     {
         let at = self.find(row.number())?;
-        Ok(slices::put(self.places, at, row))
+        Ok(mem::replace(&mut self.places[at], row))
     }
 
     /// Puts a record in the place of the one at `at` in the order, and gives that one back.
@@ -171,11 +180,11 @@ impl<'a, R: Keyed> Register<'a, R> {
         ensures untouched { Untouched result self.old self.new }
         ensures kept { Kept R.Keyed.key self.old self.new }
     {
-        let records = self.records();
-        if at >= records.len() || records[at].number() != row.number() {
-            return Err(Refusal::Missing);
+        let number = row.number();
+        match self.records().get(at) {
+            Some(old) if old.number() == number => Ok(mem::replace(&mut self.places[at], row)),
+            _ => Err(Refusal::Missing),
         }
-        Ok(slices::put(self.places, at, row))
     }
 
     // How many places the register may use.
@@ -183,20 +192,5 @@ impl<'a, R: Keyed> Register<'a, R> {
         ensures { result ≡ room self.now }
     {
         self.places.len().min(PLACES)
-    }
-
-    /// The place of the record of a number in the order.
-    ///
-    /// Asks whether it stands (25).
-    pub fn find(&self, number: u32) -> Result<usize, Refusal>
-        ensures { Placed R.Keyed.key number (records self.now) result }
-    {
-        let records = self.records();
-        let at = slices::place_of(records, number);
-        if at < records.len() {
-            Ok(at)
-        } else {
-            Err(Refusal::Missing)
-        }
     }
 }

@@ -6,11 +6,11 @@ ghost use Rattle.register.specs.Refusals.{number};
 #[derive(Clone, Copy, PartialEq, Eq, Debug)]
 pub enum Refusal {
     /// 20: no place is free.
-    Full,
+    Full = 20,
     /// 21: a record of this number stands already.
-    Taken,
+    Taken = 21,
     /// 25: no such record stands.
-    Missing,
+    Missing = 25,
 }
 
 impl Refusal {
@@ -18,10 +18,6 @@ impl Refusal {
     pub fn number(self) -> u8
         ensures { result ≡ number self }
     {
-        match self {
-            Refusal::Full => 20,
-            Refusal::Taken => 21,
-            Refusal::Missing => 25,
-        }
+        self as u8
     }
 }

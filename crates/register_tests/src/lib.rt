@@ -34,19 +34,17 @@ mod tests {
     fn fill(rt: &impl Abort, memory: &mut [Line], room: u32) {
         let mut register = Register::new(memory);
         assert!(rt; register.is_empty());
-        for i in 0..room {
+        for number in (1..=room).rev() {
             assert!(rt; !register.is_full());
-            assert_eq!(rt; register.add(numbered(room - i)), Ok(()));
+            assert_eq!(rt; register.add(numbered(number)), Ok(()));
         }
         assert!(rt; register.is_full());
         assert_eq!(rt; register.add(numbered(0)), Err(Refusal::Full));
         assert_eq!(rt; register.len(), room as usize);
-        for (i, row) in register.records().iter().enumerate() {
-            assert_eq!(rt; *row, numbered(i as u32 + 1));
+        for (row, number) in register.records().iter().zip(1..=room) {
+            assert_eq!(rt; *row, numbered(number));
         }
-        for (i, row) in memory.iter().enumerate() {
-            assert!(rt; i < room as usize || *row == BLANK);
-        }
+        assert!(rt; memory.iter().skip(room as usize).all(|row| *row == BLANK));
     }
 
     #[test]

@@ -1,7 +1,6 @@
 -- Rows of text.
 use Rattle.std.specs.Prelude.{◌≡◌, ℕ, cond, List, [], ◌∷◌, ◌++◌, map, length, drop, Some, None, decimal, Option, ◌==◌, nat_le, nat_lt}
 use Rattle.std.specs.Borrow.{Bor}
-use Rattle.std.proofs.Math.Seq.{paste}
 use Rattle.std.proofs.Math.Utf8.{encode}
 use Rattle.rows.specs.declared.field.Field.{Field}
 use Rattle.rows.specs.declared.field.Field.TheVariants.{Text, Letter, Figure, Minus}
@@ -50,9 +49,9 @@ spelled (Minus n) = 45 ∷ decimal n
 abbrev pub row : List Field → List ℕ → List ℕ
 row fields end = joined (map spelled fields) ++ end
 
--- A buffer with some bytes from a place on.
-abbrev pub put : List ℕ → ℕ → List ℕ → List ℕ
-put buffer at bytes = paste buffer at bytes (length bytes)
+-- Bytes over the front of a buffer.
+abbrev pub over : List ℕ → List ℕ → List ℕ
+over bytes buffer = bytes ++ drop (length bytes) buffer
 
 -- Bytes are written at the front of a buffer that holds them; another stays as it was.
 pub record Writes (bytes buffer : List ℕ) (r : Option ℕ) (buffer' : List ℕ) : Type 0 where

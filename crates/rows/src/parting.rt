@@ -7,12 +7,10 @@ ghost use Rattle.rows.specs.Rows.{parted, all_parts};
 pub fn split<'a>(bytes: &'a [u8], separator: u8) -> (&'a [u8], Option<&'a [u8]>)
     ensures { all_parts separator result ≡ parted separator bytes.now }
 {
-    for i in 0..bytes.len() {
-        if bytes[i] == separator {
-            return (&bytes[..i], Some(&bytes[i + 1..]));
-        }
+    match bytes.iter().position(|byte| *byte == separator) {
+        Some(at) => (&bytes[..at], Some(&bytes[at + 1..])),
+        None => (bytes, None),
     }
-    (bytes, None)
 }
 
 /// How many separators stand in some bytes: one less than its parts.
@@ -20,11 +18,5 @@ pub fn separators(bytes: &[u8], separator: u8) -> usize
     ensures count { result + 1 ≡ length (parted separator bytes.now) }
     ensures few { result ≤ length bytes.now }
 {
-    let mut count = 0;
-    for byte in bytes {
-        if *byte == separator {
-            count += 1;
-        }
-    }
-    count
+    bytes.iter().filter(|byte| **byte == separator).count()
 }

@@ -1,6 +1,6 @@
 //! Fields are written, with commas between them.
-ghost use Rattle.std.specs.Prelude.{◌≡◌, ◌+◌, ◌^◌, ◌<◌, ◌≤◌, cond, length, decimal, nat_le};
-ghost use Rattle.rows.specs.Rows.{comma, spelled, row, put, Writes};
+ghost use Rattle.std.specs.Prelude.{◌≡◌, ◌-◌, ◌≤◌, SomeIff, length, decimal};
+ghost use Rattle.rows.specs.Rows.{comma, spelled, row, over, Writes};
 
 use crate::field::Field;
 
@@ -9,13 +9,7 @@ fn digits(n: u64) -> usize
     ensures count { result ≡ length (decimal n) }
     ensures few { result ≤ 20 }
 {
-    let mut left = n;
-    let mut count = 1;
-    while left > 9 {
-        left /= 10;
-        count += 1;
-    }
-    count
+    n.checked_ilog10().unwrap_or(0) as usize + 1
 }
 
 // How many bytes a field takes.
@@ -37,63 +31,58 @@ fn comma(i: usize) -> &'static [u8]
     if i > 0 { b"," } else { b"" }
 }
 
-// Whether a row takes at most so many bytes.
-fn fits(fields: &[Field<'_>], end: &[u8], room: usize) -> bool
-    ensures { result ≡ nat_le (length (row fields.now end.now)) room }
+// What is left of so many bytes behind a row, or nothing where it takes more.
+fn left_behind(fields: &[Field<'_>], end: &[u8], room: usize) -> Option<usize>
+    ensures { SomeIff result (length (row fields.now end.now) ≤ room) (room - length (row fields.now end.now)) }
 {
     let mut left = room;
-    for i in 0..fields.len() {
-        let comma = comma(i).len();
-        let width = width(fields[i]);
-        if left < comma || left - comma < width {
-            return false;
-        }
-        left -= comma + width;
+    for (i, field) in fields.iter().enumerate() {
+        left = left
+            .checked_sub(comma(i).len())?
+            .checked_sub(width(*field))?;
     }
-    end.len() <= left
+    left.checked_sub(end.len())
 }
 
-// Writes bytes from a place on, and answers the place after them.
-fn put_bytes(buffer: &mut [u8], at: usize, bytes: &[u8]) -> usize
-    requires { at + length bytes.now ≤ length buffer.old }
-    ensures place { result ≡ at + length bytes.now }
-    ensures after { buffer.new ≡ put buffer.old at bytes.now }
+// Writes bytes at the front of a buffer, and answers how many they are.
+fn put_bytes(buffer: &mut [u8], bytes: &[u8]) -> usize
+    requires { length bytes.now ≤ length buffer.old }
+    ensures count { result ≡ length bytes.now }
+    ensures after { buffer.new ≡ over bytes.now buffer.old }
 {
-    let end = at + bytes.len();
-    buffer[at..end].copy_from_slice(bytes);
-    end
+    buffer[..bytes.len()].copy_from_slice(bytes);
+    bytes.len()
 }
 
-// Writes the digits of a number from a place on, and answers the place after them.
-fn put_figure(buffer: &mut [u8], at: usize, n: u64) -> usize
-    requires { at + length (decimal n) ≤ length buffer.old }
-    ensures place { result ≡ at + length (decimal n) }
-    ensures after { buffer.new ≡ put buffer.old at (decimal n) }
+// Writes the digits of a number at the front of a buffer, and answers how many they are.
+fn put_figure(buffer: &mut [u8], n: u64) -> usize
+    requires { length (decimal n) ≤ length buffer.old }
+    ensures count { result ≡ length (decimal n) }
+    ensures after { buffer.new ≡ over (decimal n) buffer.old }
 {
-    let end = at + digits(n);
-    let mut place = end;
+    let count = digits(n);
     let mut left = n;
-    while place > at {
-        place -= 1;
+    // By place, since what iter_mut lends is not known after its loop.
+    for place in (0..count).rev() {
         buffer[place] = b'0' + (left % 10) as u8;
         left /= 10;
     }
-    end
+    count
 }
 
-// Writes a field from a place on, and answers the place after it.
-fn put_field(buffer: &mut [u8], at: usize, field: Field<'_>) -> usize
-    requires { at + length (spelled field) ≤ length buffer.old }
-    ensures place { result ≡ at + length (spelled field.entry) }
-    ensures after { buffer.new ≡ put buffer.old at (spelled field.entry) }
+// Writes a field at the front of a buffer, and answers how many bytes it takes.
+fn put_field(buffer: &mut [u8], field: Field<'_>) -> usize
+    requires { length (spelled field) ≤ length buffer.old }
+    ensures count { result ≡ length (spelled field.entry) }
+    ensures after { buffer.new ≡ over (spelled field.entry) buffer.old }
 {
     match field {
-        Field::Text(bytes) => put_bytes(buffer, at, bytes),
-        Field::Letter(letter) => put_bytes(buffer, at, letter.encode_utf8(&mut [0; 4]).as_bytes()),
-        Field::Figure(n) => put_figure(buffer, at, n),
+        Field::Text(bytes) => put_bytes(buffer, bytes),
+        Field::Letter(letter) => put_bytes(buffer, letter.encode_utf8(&mut [0; 4]).as_bytes()),
+        Field::Figure(n) => put_figure(buffer, n),
         Field::Minus(n) => {
-            let at = put_bytes(buffer, at, b"-");
-            put_figure(buffer, at, n)
+            let sign = put_bytes(buffer, b"-");
+            sign + put_figure(&mut buffer[sign..], n)
         }
     }
 }
@@ -104,13 +93,11 @@ fn put_field(buffer: &mut [u8], at: usize, field: Field<'_>) -> usize
 pub fn write(fields: &[Field<'_>], end: &[u8], buffer: &mut [u8]) -> Option<usize>
     ensures { Writes (row fields.now end.now) buffer.old result buffer.new }
 {
-    if !fits(fields, end, buffer.len()) {
-        return None;
-    }
+    left_behind(fields, end, buffer.len())?;
     let mut at = 0;
-    for i in 0..fields.len() {
-        at = put_bytes(buffer, at, comma(i));
-        at = put_field(buffer, at, fields[i]);
+    for (i, field) in fields.iter().enumerate() {
+        at += put_bytes(&mut buffer[at..], comma(i));
+        at += put_field(&mut buffer[at..], *field);
     }
-    Some(put_bytes(buffer, at, end))
+    Some(at + put_bytes(&mut buffer[at..], end))
 }

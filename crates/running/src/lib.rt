@@ -21,6 +21,8 @@ impl Divider for RunningSums {
         let sum = weigh(total, weights, sheet.len())?;
         let mut through: u64 = 0;
         let mut given: u64 = 0;
+        // By index: nothing is known of what a `zip` with `iter_mut` wrote, and to copy the
+        // weights first and pass over the sheet alone is slower.
         for (i, weight) in weights.iter().enumerate() {
             through += *weight;
             let quotient = total * through / sum;

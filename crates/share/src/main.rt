@@ -18,19 +18,12 @@ example: share largest 101 50 30 20";
 
 // The words after the program's name.
 fn words(rt: &HostRuntime, heap: Global) -> io::Result<Vec<String>> {
-    let mut words = Vec::new(heap);
-    for word in env::args(rt)?.skip(1) {
-        words.push(word)?;
-    }
-    Ok(words)
+    Ok(env::args(rt)?.skip(1).collect(heap)?)
 }
 
 // Whether help was asked for.
 fn asks_help(words: &[String]) -> bool {
-    match words {
-        [word] => word.as_str() == "--help",
-        _ => false,
-    }
+    matches!(words, [word] if word.as_str() == "--help")
 }
 
 fn main(rt: HostRuntime) -> io::Result<ExitCode> {

@@ -25,10 +25,10 @@ abbrev pub name : Rule → List ℕ
 name Largest = codes "largest"
 name Running = codes "running"
 
--- The rule that a word names.
-abbrev pub Named : List ℕ → Option Rule → Type 0
-Named word (Some rule) = word ≡ name rule
-Named word None = (rule : Rule) → word ≢ name rule
+-- The rule that a word names; the fault of one that names none.
+abbrev pub Names : List ℕ → Result Rule Fault → Type 0
+Names word (Ok rule) = word ≡ name rule
+Names word (Err e) = (e ≡ UnknownRule) × ((rule : Rule) → word ≢ name rule)
 
 -- The first of the words that is no figure, and why; they are counted from 2.
 pub record FirstBad (words : List (List ℕ)) (word : ℕ) (why : Refusal) : Type 0 where

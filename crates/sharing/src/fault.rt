@@ -1,4 +1,7 @@
 //! Why a request is refused.
+ghost use Rattle.std.specs.Prelude.{◌≡◌};
+ghost use Rattle.sharing.specs.Request.{number};
+
 use divider::Refusal;
 use std::fmt;
 
@@ -18,6 +21,23 @@ pub enum Fault {
     Division(Refusal),
     /// There is not enough memory for the answer.
     NoMemory,
+}
+
+impl Fault {
+    /// The number by which this fault is known; want of memory has none.
+    pub fn number(self) -> Option<u8>
+        ensures { result ≡ number self }
+    {
+        // Case by case, since a case that holds a value is no number.
+        match self {
+            Fault::UnknownRule => Some(3),
+            Fault::NoTotal => Some(4),
+            Fault::NotAFigure(_) => Some(5),
+            Fault::OutOfRange(_) => Some(6),
+            Fault::Division(e) => Some(e.number()),
+            Fault::NoMemory => None,
+        }
+    }
 }
 
 impl fmt::Display for Fault {

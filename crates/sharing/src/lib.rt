@@ -14,7 +14,6 @@ use divider::{Divider, Refusal, weigh};
 use largest::LargestRemainder;
 use running::RunningSums;
 use std::alloc::{AllocError, AllocFailed, Global};
-use std::fmt;
 
 mod fault;
 mod request;
@@ -45,6 +44,7 @@ impl From<Refusal> for Fault {
     }
 }
 
+// std has two errors for want of memory, and `?` meets both.
 impl From<AllocError> for Fault {
     ghost from_gives = { λ e f. f ≡ NoMemory };
 
@@ -57,14 +57,6 @@ impl<T: Drop> From<AllocFailed<T>> for Fault {
     ghost from_gives = { λ e f. f ≡ NoMemory };
 
     fn from(_e: AllocFailed<T>) -> Fault {
-        Fault::NoMemory
-    }
-}
-
-impl From<fmt::Error> for Fault {
-    ghost from_gives = { λ e f. f ≡ NoMemory };
-
-    fn from(_e: fmt::Error) -> Fault {
         Fault::NoMemory
     }
 }
@@ -109,11 +101,10 @@ fn write_lines(
 {
     let mut wholes: u64 = 0;
     let mut rests: u64 = 0;
-    for (i, weight) in weights.iter().enumerate() {
+    for (i, (weight, share)) in weights.iter().zip(shares).enumerate() {
         let product = total * *weight;
-        let whole = product / sum;
-        let rest = product - whole * sum;
-        write_row(text, i + 1, *weight, whole, rest, shares[i])?;
+        let (whole, rest) = (product / sum, product % sum);
+        write_row(text, i + 1, *weight, whole, rest, *share)?;
         wholes += whole;
         rests += rest;
     }

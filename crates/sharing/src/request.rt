@@ -1,38 +1,9 @@
 //! Requests as words: the rule, the total, the weights.
 ghost use Rattle.std.specs.Prelude.{◌≡◌, map, length, string_bytes};
-ghost use Rattle.sharing.specs.Request.{number, Named, Figures, at_word, Answered};
+ghost use Rattle.sharing.specs.Request.{Figures, at_word, Answered};
 
 use crate::{Fault, Rule, table};
 use std::alloc::Global;
-
-impl Fault {
-    /// The number by which this fault is known; want of memory has none.
-    pub fn number(self) -> Option<u8>
-        ensures { result ≡ number self }
-    {
-        match self {
-            Fault::UnknownRule => Some(3),
-            Fault::NoTotal => Some(4),
-            Fault::NotAFigure(_) => Some(5),
-            Fault::OutOfRange(_) => Some(6),
-            Fault::Division(e) => Some(e.number()),
-            Fault::NoMemory => None,
-        }
-    }
-}
-
-// The rule of this name.
-fn rule_named(word: &str) -> Option<Rule>
-    ensures { Named word.now result }
-{
-    if word == "largest" {
-        Some(Rule::Largest)
-    } else if word == "running" {
-        Some(Rule::Running)
-    } else {
-        None
-    }
-}
 
 // The fault of a word that is read as no figure.
 fn at_word(e: figures::Refusal, word: usize) -> Fault
@@ -49,6 +20,7 @@ fn figures_of(heap: Global, words: &[String]) -> Result<Vec<u64>, Fault>
     ensures { Figures (map string_bytes words.now) result }
 {
     let mut found = Vec::new(heap);
+    // A match, since the place of the word goes into its fault.
     for (i, word) in words.iter().enumerate() {
         match figures::read(word.as_bytes()) {
             Ok(figure) => found.push(figure)?,
@@ -66,17 +38,13 @@ fn figures_of(heap: Global, words: &[String]) -> Result<Vec<u64>, Fault>
 pub fn answer(heap: Global, words: &[String]) -> Result<String, Fault>
     ensures { Answered (map string_bytes words.now) result }
 {
-    if words.is_empty() {
-        return Err(Fault::UnknownRule);
-    }
-    let Some(rule) = rule_named(words[0].as_str()) else {
+    let [first, others @ ..] = words else {
         return Err(Fault::UnknownRule);
     };
-    let end = words.len();
-    let figures = figures_of(heap, &words[1..end])?;
-    if figures.is_empty() {
+    let rule = first.as_str().parse::<Rule>()?;
+    let figures = figures_of(heap, others)?;
+    let [total, weights @ ..] = figures.as_slice() else {
         return Err(Fault::NoTotal);
-    }
-    let end = figures.len();
-    table(heap, &rule, figures[0], &figures[1..end])
+    };
+    table(heap, &rule, *total, weights)
 }

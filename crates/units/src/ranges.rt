@@ -6,7 +6,7 @@ ghost use Rattle.units.specs.Ranges.{number, row, range, in_range};
 #[derive(Clone, Copy, PartialEq, Eq, Debug)]
 pub enum Refusal {
     /// 6: the figure is outside its range.
-    OutOfRange,
+    OutOfRange = 6,
 }
 
 impl Refusal {
@@ -14,9 +14,7 @@ impl Refusal {
     pub fn number(self) -> u8
         ensures { result ≡ number self }
     {
-        match self {
-            Refusal::OutOfRange => 6,
-        }
+        self as u8
     }
 }
 
@@ -46,20 +44,9 @@ const NONE: (u64, u64) = (1, 0);
 /// The lowest and the highest of every figure: a row for each letter, in the
 /// order of `Letter`, and a place for each field after the letter. A field
 /// that holds no figure has the range from 1 to 0, in which nothing lies.
-const RANGES: [[(u64, u64); 10]; 7] = [
-    [
-        (1, 20_000_000),
-        (0, 20_000_000),
-        NONE,
-        NONE,
-        NONE,
-        NONE,
-        NONE,
-        NONE,
-        NONE,
-        NONE,
-    ],
-    [
+const RANGES: [&[(u64, u64)]; 7] = [
+    &[(1, 20_000_000), (0, 20_000_000)],
+    &[
         (1, 9_999),
         NONE,
         (0, 2_000_000),
@@ -71,92 +58,22 @@ const RANGES: [[(u64, u64); 10]; 7] = [
         (0, 30_000),
         (0, 2_000_000),
     ],
-    [
-        (1, 9_999),
-        NONE,
-        (1, 100_000_000_000),
-        NONE,
-        NONE,
-        NONE,
-        NONE,
-        NONE,
-        NONE,
-        NONE,
-    ],
-    [
-        (1, 9_999),
-        NONE,
-        (1, 100_000_000_000),
-        NONE,
-        NONE,
-        NONE,
-        NONE,
-        NONE,
-        NONE,
-        NONE,
-    ],
-    [
-        (1, 9_999),
-        NONE,
-        NONE,
-        (1, 100_000_000_000),
-        NONE,
-        NONE,
-        NONE,
-        NONE,
-        NONE,
-        NONE,
-    ],
-    [
-        (1, 9_999),
-        (0, 20_050_000),
-        NONE,
-        NONE,
-        NONE,
-        NONE,
-        NONE,
-        NONE,
-        NONE,
-        NONE,
-    ],
-    [
-        (1, 9_999),
-        (1, 9_999),
-        (0, 20_050_000),
-        NONE,
-        NONE,
-        NONE,
-        NONE,
-        NONE,
-        NONE,
-        NONE,
-    ],
+    &[(1, 9_999), NONE, (1, 100_000_000_000)],
+    &[(1, 9_999), NONE, (1, 100_000_000_000)],
+    &[(1, 9_999), NONE, NONE, (1, 100_000_000_000)],
+    &[(1, 9_999), (0, 20_050_000)],
+    &[(1, 9_999), (1, 9_999), (0, 20_050_000)],
 ];
-
-// The row of a letter in the table.
-fn row(letter: Letter) -> usize
-    ensures { (result ≡ row letter) × (result < 7) }
-{
-    match letter {
-        Letter::Header => 0,
-        Letter::Customer => 1,
-        Letter::Expense => 2,
-        Letter::Credit => 3,
-        Letter::Shift => 4,
-        Letter::Grant => 5,
-        Letter::Transfer => 6,
-    }
-}
 
 /// The lowest and the highest of the figure in a field of a line; the letter
 /// is field 1. Where there is no figure, it is the range from 1 to 0.
 pub fn range(letter: Letter, field: usize) -> (u64, u64)
     ensures { result ≡ range letter field }
 {
-    if field < 2 || field > 11 {
-        return NONE;
+    match field.checked_sub(2) {
+        Some(place) => RANGES[letter as usize].get(place).copied().unwrap_or(NONE),
+        None => NONE,
     }
-    RANGES[row(letter)][field - 2]
 }
 
 /// Whether a figure may stand in a field of a line.
@@ -164,5 +81,5 @@ pub fn in_range(letter: Letter, field: usize, figure: u64) -> bool
     ensures { result ≡ in_range letter field figure }
 {
     let (low, high) = range(letter, field);
-    low <= figure && figure <= high
+    (low..=high).contains(&figure)
 }

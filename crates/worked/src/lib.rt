@@ -63,26 +63,21 @@ mod tests {
 
     // The number of the fault that these words meet.
     fn refused(heap: Global, words: &[&str]) -> Result<Option<u8>, AllocError> {
-        match answer(heap, &request(heap, words)?) {
-            Ok(_) => Ok(None),
-            Err(fault) => Ok(fault.number()),
-        }
+        let fault = answer(heap, &request(heap, words)?).err();
+        Ok(fault.and_then(|fault| fault.number()))
     }
 
     #[test]
     fn table_by_running_sums(rt: HostRuntime) -> Result<(), Fail> {
         let heap = rt.alloc();
         let words = request(heap, &["running", "101", "50", "30", "20"])?;
-        match answer(heap, &words) {
-            Ok(text) => {
-                assert!(rt;
-                    text.as_str()
-                        == "1,50,50,50,50\n2,30,30,30,30\n3,20,20,20,21\nsum,100,100,100,101\n"
-                );
-                Ok(())
-            },
-            Err(_) => Err(Fail::new("refused")),
-        }
+        let Ok(text) = answer(heap, &words) else {
+            return Err(Fail::new("refused"));
+        };
+        assert!(rt;
+            text.as_str() == "1,50,50,50,50\n2,30,30,30,30\n3,20,20,20,21\nsum,100,100,100,101\n"
+        );
+        Ok(())
     }
 
     #[test]

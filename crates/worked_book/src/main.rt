@@ -8,104 +8,84 @@
 
 use book::{ClosedBook, Figures, Intake, OpenBook, Posting, Refusal};
 use largest::LargestRemainder;
-use records::{CostLine, Customer, Entry, Pool};
-use register::{Keyed, Register};
+use records::{CostLine, Customer};
+use register::Register;
 use std::io;
 use std::process::ExitCode;
 use units::{Cents, Header, Load};
 
-const NOBODY: Customer = Customer {
-    number: 0,
-    measured: 0,
-    founding: 0,
-    conservation: 0,
-    retail: 0,
-    large: 0,
-    resources: 0,
-    elected: 0,
-    slice: 0,
-    mark: 0,
-    transit: 0,
-    rhwm: 0,
-};
-
-const NO_LINE: CostLine = CostLine {
-    number: 0,
-    entry: Entry::Expense(Pool::Composite),
-    cents: 0,
-};
-
 // The customers Alder, Birch and Cedar.
-const FIGURES: [[u64; 9]; 3] = [
-    [1, 50, 0, 0, 60, 0, 0, 5, 0],
-    [2, 30, 0, 0, 20, 0, 0, 0, 0],
-    [3, 20, 0, 0, 40, 10, 0, 50, 10],
-];
-
-fn figures(f: &[u64; 9]) -> Figures {
+const FIGURES: [Figures; 3] = [
     Figures {
-        number: f[0],
-        measured: f[1],
-        founding: f[2],
-        conservation: f[3],
-        retail: f[4],
-        large: f[5],
-        resources: f[6],
-        elected: f[7],
-        slice: f[8],
-    }
-}
+        number: 1,
+        measured: 50,
+        founding: 0,
+        conservation: 0,
+        retail: 60,
+        large: 0,
+        resources: 0,
+        elected: 5,
+        slice: 0,
+    },
+    Figures {
+        number: 2,
+        measured: 30,
+        founding: 0,
+        conservation: 0,
+        retail: 20,
+        large: 0,
+        resources: 0,
+        elected: 0,
+        slice: 0,
+    },
+    Figures {
+        number: 3,
+        measured: 20,
+        founding: 0,
+        conservation: 0,
+        retail: 40,
+        large: 10,
+        resources: 0,
+        elected: 50,
+        slice: 10,
+    },
+];
 
 // Says how a call ended.
 fn tell(rt: &HostRuntime, what: &str, answer: Result<(), Refusal>) -> io::Result<()> {
     match answer {
         Ok(()) => println!(rt; "{what}: accepted"),
-        Err(refusal) => {
-            let number = refusal.number();
-            println!(rt; "{what}: {number}")
-        }
+        Err(refusal) => println!(rt; "{what}: {}", refusal.number()),
     }
 }
 
 fn print_marks(rt: &HostRuntime, customers: &Register<'_, Customer>) -> io::Result<()> {
     for customer in customers.records() {
-        let number = customer.number;
-        let mark = customer.mark;
-        println!(rt; "mark,{number},{mark}")?;
+        println!(rt; "mark,{},{}", customer.number, customer.mark)?;
     }
     Ok(())
 }
 
-// Moves a load from one customer to another, and says how it ended.
+// Moves a load from one customer to another.
 fn transfer(
-    rt: &HostRuntime,
     book: &OpenBook<LargestRemainder>,
     customers: &mut Register<'_, Customer>,
     giver: u32,
     receiver: u32,
     thousandths: u64,
-) -> io::Result<()> {
-    let Ok(load) = Load::new(thousandths) else {
-        return tell(rt, "transfer", Err(Refusal::OutOfRange));
-    };
-    match book.lift(customers, giver, load) {
-        Ok(parcel) => tell(rt, "transfer", book.land(customers, parcel, receiver)),
-        Err(refusal) => tell(rt, "transfer", Err(refusal)),
-    }
+) -> Result<(), Refusal> {
+    let parcel = book.lift(customers, giver, Load::new(thousandths)?)?;
+    book.land(customers, parcel, receiver)
 }
 
-// Adds a load to a customer's mark, and says how it ended.
+// Adds a load to a customer's mark.
 fn grant(
-    rt: &HostRuntime,
     book: &mut OpenBook<LargestRemainder>,
     customers: &mut Register<'_, Customer>,
     number: u32,
     thousandths: u64,
-) -> io::Result<()> {
-    match Load::new(thousandths) {
-        Ok(load) => tell(rt, "grant", book.grant(customers, number, load)),
-        Err(_) => tell(rt, "grant", Err(Refusal::OutOfRange)),
-    }
+) -> Result<(), Refusal> {
+    book.grant(customers, number, Load::new(thousandths)?)
 }
 
 // Enters the three customers.
@@ -113,8 +93,8 @@ fn enter_all(
     intake: &Intake<LargestRemainder>,
     customers: &mut Register<'_, Customer>,
 ) -> Result<(), Refusal> {
-    for f in FIGURES.iter() {
-        intake.enter(customers, figures(f))?;
+    for figures in FIGURES {
+        intake.enter(customers, figures)?;
     }
     Ok(())
 }
@@ -127,10 +107,7 @@ fn post(
     posting: Posting,
     cents: u64,
 ) -> Result<(), Refusal> {
-    match Cents::new(cents) {
-        Ok(amount) => book.post(lines, number, posting, amount),
-        Err(_) => Err(Refusal::OutOfRange),
-    }
+    book.post(lines, number, posting, Cents::new(cents)?)
 }
 
 // Posts the four cost lines.
@@ -151,9 +128,7 @@ fn bill(
     letter: char,
     charges: &mut [i64],
 ) -> Result<(), Refusal> {
-    let mut weights = [0; 3];
-    let mut shares = [0; 3];
-    book.bill(customers, letter, &mut weights, &mut shares, charges)
+    book.bill(customers, letter, &mut [0; 3], &mut [0; 3], charges)
 }
 
 // Bills the four pools.
@@ -162,10 +137,10 @@ fn bill_all(
     customers: &Register<'_, Customer>,
     charges: &mut [i64],
 ) -> Result<(), Refusal> {
-    bill(book, customers, 'C', charges)?;
-    bill(book, customers, 'N', charges)?;
-    bill(book, customers, 'S', charges)?;
-    bill(book, customers, 'T', charges)
+    for letter in ['C', 'N', 'S', 'T'] {
+        bill(book, customers, letter, charges)?;
+    }
+    Ok(())
 }
 
 // Prints each customer with its charges.
@@ -175,18 +150,15 @@ fn print_all(
     charges: &[i64; 12],
 ) -> io::Result<()> {
     for (i, customer) in customers.records().iter().enumerate() {
-        if i >= 3 {
-            break;
-        }
-        let number = customer.number;
-        let mark = customer.mark;
-        let rhwm = customer.rhwm;
         let above = customer.above_rhwm_load();
-        let c = charges[i];
-        let n = charges[3 + i];
-        let s = charges[6 + i];
-        let t = charges[9 + i];
-        println!(rt; "{number},{mark},{rhwm},{above},{c},{n},{s},{t}")?;
+        print!(rt;
+            "{},{},{},{above}",
+            customer.number, customer.mark, customer.rhwm
+        )?;
+        for charge in charges.iter().skip(i).step_by(3) {
+            print!(rt; ",{charge}")?;
+        }
+        println!(rt; "")?;
     }
     Ok(())
 }
@@ -200,16 +172,14 @@ fn settle(
     granted: u64,
 ) -> io::Result<()> {
     print_marks(rt, customers)?;
-    transfer(rt, &book, customers, 2, 1, 31)?;
-    transfer(rt, &book, customers, 1, 7, 5)?;
-    transfer(rt, &book, customers, 1, 2, 5)?;
+    tell(rt, "transfer", transfer(&book, customers, 2, 1, 31))?;
+    tell(rt, "transfer", transfer(&book, customers, 1, 7, 5))?;
+    tell(rt, "transfer", transfer(&book, customers, 1, 2, 5))?;
     print_marks(rt, customers)?;
-    transfer(rt, &book, customers, 2, 1, 5)?;
-    grant(rt, &mut book, customers, 1, granted)?;
+    tell(rt, "transfer", transfer(&book, customers, 2, 1, 5))?;
+    tell(rt, "grant", grant(&mut book, customers, 1, granted))?;
     tell(rt, "posting", post_all(&mut book, lines))?;
-    let mut weights = [0; 3];
-    let mut shares = [0; 3];
-    match book.close(customers, &mut weights, &mut shares) {
+    match book.close(customers, &mut [0; 3], &mut [0; 3]) {
         Ok(closed) => {
             let mut charges = [0; 12];
             tell(rt, "billing", bill_all(&closed, customers, &mut charges))?;
@@ -221,15 +191,13 @@ fn settle(
 
 // Takes the book from entering to the bills, with a grant to Alder.
 fn run(rt: &HostRuntime, header: Header, granted: u64) -> io::Result<()> {
-    let mut customer_places = [NOBODY; 3];
+    let mut customer_places = [Customer::BLANK; 3];
     let mut customers = Register::new(&mut customer_places);
-    let mut line_places = [NO_LINE; 4];
+    let mut line_places = [CostLine::BLANK; 4];
     let mut lines = Register::new(&mut line_places);
     let intake = Intake::new(LargestRemainder, header);
     tell(rt, "entering", enter_all(&intake, &mut customers))?;
-    let mut weights = [0; 3];
-    let mut shares = [0; 3];
-    match runs::found(intake, &mut customers, &mut weights, &mut shares) {
+    match runs::found(intake, &mut customers, &mut [0; 3], &mut [0; 3]) {
         Ok(book) => settle(rt, book, &mut customers, &mut lines, granted),
         Err(back) => tell(rt, "founding", Err(back.1)),
     }

@@ -1,50 +1,36 @@
-use Rattle.std.proofs.Common.{◌≡◌, ℕ, ◌<◌, true, List, map, length, get_or, drop, ap, ◌∙◌, subst, arith}
-use Rattle.std.proofs.lemmas.List.{length-map}
+use Rattle.std.proofs.Common.{◌≡◌, ℕ, ◌<◌, List, length, get_or, take, sym, ap, ◌∙◌, arith}
+use Rattle.std.specs.Fn.{FnReturnsAt}
+use Rattle.std.specs.List.{AllZip}
+use Rattle.std.proofs.lemmas.List.Sums.{get_or-le-sum_by}
 use Rattle.divider.specs.Shares.{Fair}
 use Rattle.register.specs.Register.{records}
-use Rattle.records.specs.declared.customer.Customer.{Customer}
-use Rattle.book.specs.Customers.{with_shares}
-use Rattle.book.specs.Rates.{Meaning, Sheets, on_top}
-use Rattle.book.specs.Weights.{weight_by}
-use Rattle.book.specs.Written.{write_by}
-use Rattle.book.proofs.Portions.{with_front}
-use Rattle.book.proofs.SheetParts.{at_on_top}
+use Rattle.book.specs.Rates.{on_top}
+use Rattle.book.proofs.SheetParts.{front_on_top}
+use Rattle.book.proofs.Weighings.{zip_length}
 use Rattle.book.proofs.sharing.share_out.Goals as goal
 
--- the same sheets, by the records that were read
-same_sheets : (m : Meaning) (t : ℕ) (f : Customer → ℕ) (cs cs' : List Customer) (ws ss ws' ss' : List ℕ) → cs ≡ cs' → Sheets m t (map f cs) true ws ss ws' ss' → Sheets m t (map f cs') true ws ss ws' ss'
-same_sheets m t f cs cs' ws ss ws' ss' e s = subst (λ (l : List Customer). Sheets m t (map f l) true ws ss ws' ss') e s
+-- the shares stand in the first places of the sheet
+front : (t n : ℕ) (by shares ss ss' : List ℕ) → Fair t by shares → ss' ≡ on_top shares ss → n ≡ length by → take n ss' ≡ shares
+front t n by shares ss ss' fair e is = ap (take n) e ∙ front_on_top shares ss n (fair.len ∙ sym is)
 
--- each share is below what the total is below
-each_small : (t n : ℕ) (f : Customer → ℕ) (cs : List Customer) (shares ss ss' : List ℕ) → Fair t (map f cs) shares → ss' ≡ on_top shares ss → t < n → (k : ℕ) → k < length cs → get_or ss' k 0 < n
-each_small t n f cs shares ss ss' fair e h k l =
-    let within : k < length shares = omega (arith, fair.len, length-map cs f) in
-    omega (arith, at_on_top shares ss k within, ap (λ (s : List ℕ). get_or s k 0) e, fair.adds_up)
+-- each of them is below what the total is below
+each_small : (t most : ℕ) (by shares : List ℕ) → Fair t by shares → t < most → (k : ℕ) → k < length shares → get_or shares k 0 < most
+each_small t most by shares fair h k l = omega (arith, get_or-le-sum_by (λ (x : ℕ). x) shares k 0 l, fair.adds_up)
 
--- the shares on top of the sheet are those that are written
-written_from : (t : ℕ) (f : Customer → ℕ) (w : Customer → ℕ → Customer) (cs cs' : List Customer) (shares ss ss' : List ℕ) → Fair t (map f cs) shares → ss' ≡ on_top shares ss → cs' ≡ with_shares w ss' cs → cs' ≡ with_shares w shares cs
-written_from t f w cs cs' shares ss ss' fair e d =
-    d ∙ ap (λ (s : List ℕ). with_shares w s cs) e ∙ with_front w shares (drop (length shares) ss) cs (fair.len ∙ length-map cs f)
+pub write_shares-requires-clause-small : goal.write_shares-requires-clause-small
+write_shares-requires-clause-small g c =
+    let now = c.divide_by.ensures in
+    let t = c.args.total in
+    let zip : AllZip (FnReturnsAt g.F.Fn c.args.weight) (records c.args.customers.now) now.0 = rw c.records.ensures at now.1 in
+    let fair = g.met.D.Divider.fair c.args.divider.now t now.0 (c.requires.passes now.0 zip) in
+    let first = front t c.len-n.result now.0 _ c.args.shares.now c.divide_by.new.shares fair now.2.shared (c.len-n.ensures ∙ sym (zip_length _ (records c.args.customers.now) now.0 zip)) in
+    λ k. rw first (each_small t _ now.0 _ fair c.requires.small k)
 
-pub write_shares-requires : goal.write_shares-requires
-write_shares-requires g c =
-    let cs = records c.args.customers.now in
-    let m = g.D.Divider.meaning c.args.divider.now in
-    let f = weight_by c.args.by in
-    let are = same_sheets m c.args.total f c.records.result.now cs c.args.weights.now c.args.shares.now c.divide_by.new.weights c.divide_by.new.shares c.records.ensures c.divide_by.ensures in
-    record {
-      wide = omega arith;
-      small = each_small c.args.total _ f cs (m c.args.total (map f cs)) c.args.shares.now c.divide_by.new.shares (g.met.D.Divider.fair c.args.divider.now c.args.total (map f cs) c.requires.passes) are.shared c.requires.small;
-    }
-
-pub returns : goal.returns
-returns g c =
-    let cs = records c.args.customers.now in
-    let m = g.D.Divider.meaning c.args.divider.now in
-    let f = weight_by c.args.by in
-    let are = same_sheets m c.args.total f c.records.result.now cs c.args.weights.now c.args.shares.now c.divide_by.new.weights c.divide_by.new.shares c.records.ensures c.divide_by.ensures in
-    record {
-      done = written_from c.args.total f (write_by c.args.to) cs (records c.write_shares.new.customers) (m c.args.total (map f cs)) c.args.shares.now c.divide_by.new.shares (g.met.D.Divider.fair c.args.divider.now c.args.total (map f cs) c.requires.passes) are.shared c.write_shares.ensures.done;
-      sheets = are;
-      kept = c.write_shares.ensures.kept;
-    }
+pub returns-clause-done : goal.returns-clause-done
+returns-clause-done g c =
+    let now = c.divide_by.ensures in
+    let t = c.args.total in
+    let zip : AllZip (FnReturnsAt g.F.Fn c.args.weight) (records c.args.customers.now) now.0 = rw c.records.ensures at now.1 in
+    let fair = g.met.D.Divider.fair c.args.divider.now t now.0 (c.requires.passes now.0 zip) in
+    let first = front t c.len-n.result now.0 _ c.args.shares.now c.divide_by.new.shares fair now.2.shared (c.len-n.ensures ∙ sym (zip_length _ (records c.args.customers.now) now.0 zip)) in
+    (now.0, zip, ((rw first at c.write_shares.ensures.done), now.2))

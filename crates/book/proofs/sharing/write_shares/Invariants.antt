@@ -1,8 +1,10 @@
-use Rattle.std.proofs.Common.{◌≡◌, take}
+use Rattle.std.proofs.Common.{take}
 use Rattle.register.specs.Register.{records, Kept}
-use Rattle.book.specs.Customers.{key, with_shares}
-use Rattle.book.specs.Written.{write_by}
+use Rattle.book.specs.Customers.{key}
+use Rattle.book.specs.Written.{Written}
 use Rattle.book.proofs.sharing.write_shares.Given as goal
 
 abbrev pub invariant-loop-i : goal.invariant-loop-i
-invariant-loop-i l = (records l.customers ≡ with_shares (write_by l.to) (take l.i l.shares) (records l.initial.customers)) × Kept key l.initial.customers l.customers
+invariant-loop-i g l =
+    Written (goal.F-post g l.write) (take l.i l.shares) (records l.initial.customers) (records l.customers)
+    × Kept key l.initial.customers l.customers

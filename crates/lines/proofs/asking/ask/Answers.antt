@@ -1,20 +1,25 @@
-use Rattle.std.proofs.Common.{Err, sym, ap, ◌∙◌}
+use Rattle.std.proofs.Common.{◌≡◌, arith, subst}
 use Rattle.rows.specs.Rows.{spelled}
-use Rattle.lines.specs.Answers.{told}
-use Rattle.lines.specs.Forms.{kind}
-use Rattle.lines.specs.Questions.{refused}
-use Rattle.lines.proofs.Fields.{fits_typed, asks_none, asks_refused}
+use Rattle.lines.specs.Forms.{kind, Pool, OtherPool}
+use Rattle.lines.specs.Questions.{Fits}
+use Rattle.lines.proofs.Fields.{told_figure, told_pool, told_other}
+use Rattle.lines.proofs.Walking.{pool_is, other_is}
 use Rattle.lines.proofs.asking.ask.Goals as goal
 
-pub returns-then-not-is_lawful : goal.returns-then-not-is_lawful
-returns-then-not-is_lawful c =
+pub returns-in-Figure : goal.returns-in-Figure
+returns-in-Figure c =
     let l = c.args.letter in
     let k = c.args.place in
-    ap Err (c.refusal_of.ensures ∙ ap refused c.kind_of.ensures)
-    ∙ sym (ap (told tt) (asks_refused (kind l k) l k (spelled c.args.field) (spelled c.args.third) (fits_typed (kind l k) c.args.field c.requires.0) c.if-not-is_lawful.ensures))
+    rw (c.told.ensures, c.in_range.ensures, c.in-Figure.is) (told_figure (kind l k) l k c.in-Figure.n (spelled c.args.third) (subst (Fits (kind l k)) c.in-Figure.is c.requires.0))
 
-pub returns : goal.returns
-returns c =
+pub returns-in-Letter : goal.returns-in-Letter
+returns-in-Letter c =
     let l = c.args.letter in
     let k = c.args.place in
-    sym (ap (told tt) (asks_none (kind l k) l k (spelled c.args.field) (spelled c.args.third) (fits_typed (kind l k) c.args.field c.requires.0) c.if-not-is_lawful.ensures))
+    rw (c.told-in-Letter.ensures, c.is_other_pool.ensures, c.in-Letter.is) (told_other (kind l k) l k c.in-Letter.pool c.args.third (subst (Fits (kind l k)) c.in-Letter.is c.requires.0) (λ (e : kind l k ≡ Pool). omega (arith, pool_is l k e)) c.requires.1)
+
+pub returns-in-Letter-2 : goal.returns-in-Letter-2
+returns-in-Letter-2 c =
+    let l = c.args.letter in
+    let k = c.args.place in
+    rw (c.told-in-Letter-2.ensures, c.is_pool.ensures, c.in-Letter-2.is) (told_pool (kind l k) l k c.in-Letter-2.pool (spelled c.args.third) (subst (Fits (kind l k)) c.in-Letter-2.is c.requires.0) (λ (e : kind l k ≡ OtherPool). let o = (other_is l k e).0 in omega arith))

@@ -1,24 +1,14 @@
-use Rattle.std.proofs.Common.{length, sym, ap, ◌∙◌, inl, inr, arith}
-use Rattle.std.proofs.lemmas.Bool.{eqb-false}
-use Rattle.std.proofs.lemmas.List.{drop_all}
-use Rattle.lines.specs.Questions.{name_bytes}
-use Rattle.lines.proofs.Fields.{name_more, name_ends, no_name, is_a_name}
+use Rattle.std.proofs.Common.{◌≤◌, length, rules, tests}
+use Rattle.std.proofs.lemmas.Iterator.{YieldsList-from_slice}
+use Rattle.std.proofs.lemmas.Iterator.Search.{all_from_yields_List}
+use Rattle.std.proofs.lemmas.Map.Keys.{le_from_is_le}
+use Rattle.lines.specs.Questions.{name_byte}
+use Rattle.lines.proofs.Fields.{name_of_bytes}
 use Rattle.lines.proofs.asking.is_name.Goals as goal
-use Rattle.lines.proofs.asking.is_name.Goals.{then-byte-lt32-via-then-byte-lt32, then-byte-lt32-via-else-byte-lt32+then-byte-gt126, then-byte-lt32-via-else-byte-lt32+else-byte-gt126+then-byte-eq44}
 
-pub returns-then-byte-lt32 : goal.returns-then-byte-lt32
-returns-then-byte-lt32 c =
-    no_name c.args.bytes.now (sym c.loop-byte.invariant ∙ name_ends c.args.bytes.now c.loop-byte.byte-index c.loop-byte-test.true (elim c.then-byte-lt32.branch [
-      | then-byte-lt32-via-then-byte-lt32 w ↦ inl w.if-byte-lt32.true
-      | then-byte-lt32-via-else-byte-lt32+then-byte-gt126 w ↦ inr (inl w.if-byte-gt126.true)
-      | then-byte-lt32-via-else-byte-lt32+else-byte-gt126+then-byte-eq44 w ↦ inr (inr w.if-byte-eq44.true)
-    ]))
-
-pub loop-byte-preserved : goal.loop-byte-preserved
-loop-byte-preserved c =
-    name_more c.args.bytes.now c.loop-byte.byte-index c.loop-byte-test.true c.if-byte-lt32.false c.if-byte-gt126.false c.if-byte-eq44.false ∙ c.loop-byte.invariant
-
-pub returns : goal.returns
-returns c =
+pub returns-then-contains : goal.returns-then-contains
+returns-then-contains c =
     let bs = c.args.bytes.now in
-    is_a_name bs (omega (arith, eqb-false (length bs) 0 (sym c.if-is_empty.ensures))) c.if-bytes-gt24.false (sym c.loop-byte.invariant ∙ ap name_bytes (drop_all c.loop-byte.byte-index bs c.loop-byte-test.false))
+    let some : 1 ≤ length bs = le_from_is_le _ _ (rw c.new.ensures.start at c.if-contains.ensures.cases.0) in
+    let few : length bs ≤ 24 = le_from_is_le _ _ (rw c.new.ensures.end at c.if-contains.ensures.cases.1) in
+    name_of_bytes bs c.all.result some few (all_from_yields_List name_byte _ _ c.all.result c.all.ensures.ran (YieldsList-from_slice bs cc) (λ x b q k. search (rules, tests)))

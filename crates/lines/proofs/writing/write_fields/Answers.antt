@@ -1,36 +1,39 @@
-use Rattle.std.proofs.Common.{◌≡◌, ℕ, ◌+◌, ◌≤◌, [], map, length, arith}
-use Rattle.units.specs.declared.ranges.Letter.{Letter}
+use Rattle.std.proofs.Common.{◌≡◌, ◌+◌, ◌-◌, ◌∙◌, ap, sym, map, arith}
+use Rattle.std.proofs.lemmas.Result.{err_from_is_err_and}
 use Rattle.rows.specs.Rows.{spelled}
+use Rattle.lines.specs.Answers.{at_field}
 use Rattle.lines.specs.Forms.{count}
-use Rattle.lines.proofs.Fields.{told_refused}
-use Rattle.lines.proofs.Sending.{shaped_at, shaped_third, asked_more, asked_fails, told_nothing, sent, unsent}
-use Rattle.lines.proofs.Walking.{some_fields}
+use Rattle.lines.specs.Questions.{first_fault}
+use Rattle.lines.proofs.Fields.{told_refused, told_nothing}
+use Rattle.lines.proofs.Sending.{shaped_item, shaped_third, within, asked_item, items_counted, unsent_at, sent}
+use Rattle.lines.proofs.Walking.{clean_more, faults_next}
 use Rattle.lines.proofs.writing.write_fields.Goals as goal
-
--- the loop ended at the last field
-ended : (l : Letter) (i n : ℕ) → n ≡ count l → n ≤ i → (1 ≤ n → i ≤ n) → count l ≤ i
-ended l i n e low top = let some = some_fields l [] in omega arith
 
 pub ask-requires : goal.ask-requires
 ask-requires c =
-    (shaped_at c.args.letter c.args.fields.now c.loop-i.i c.requires.0 c.loop-i.auto.i c.loop-i-test.true, shaped_third c.args.letter c.args.fields.now c.requires.0 c.requires.1 (c.loop-i.i + 1))
+    (shaped_item c.args.letter c.args.fields.now c.requires.0 c.requires.1 c.loop-i.i c.loop-i-test.true, shaped_third c.args.letter c.args.fields.now c.requires.0 c.requires.1 (c.loop-i.i + 2))
 
-pub returns-in-Err : goal.returns-in-Err
-returns-in-Err c =
-    asked_fails c.args.letter c.args.fields.now c.requires.0 c.requires.1 c.args.buffer.now c.loop-i.i c.in-Err.refusal c.loop-i.auto.i c.loop-i-test.true c.loop-i.invariant (told_refused _ c.in-Err.refusal c.in-Err.ensures)
+pub returns-in_err-ask : goal.returns-in_err-ask
+returns-in_err-ask c =
+    let l = c.args.letter in
+    let fs = c.args.fields.now in
+    let i = c.loop-i.i in
+    let f = c.in_err-ask.field-0.0 in
+    let p = err_from_is_err_and c.from_residual.result c.from_residual.ensures.1 in
+    let w = within l fs c.requires.0 c.requires.1 i c.loop-i-test.true in
+    let here = ap (at_field (i + 2)) (sym (asked_item l fs c.requires.0 c.requires.1 i c.loop-i-test.true)) ∙ told_refused _ f c.in_err-ask.ensures in
+    rw (p.1, p.2) (unsent_at l fs c.requires.0 c.requires.1 c.args.buffer.now f (faults_next l (map spelled fs) i f (omega (arith, c.requires.1)) c.loop-i.invariant here))
 
 pub loop-i-preserved : goal.loop-i-preserved
 loop-i-preserved c =
-    asked_more c.args.letter c.args.fields.now c.requires.0 c.requires.1 c.loop-i.i c.loop-i-test.true c.loop-i.invariant (told_nothing _ c.in_default.ensures)
-
-pub returns-in-Some : goal.returns-in-Some
-returns-in-Some c =
     let l = c.args.letter in
-    let end = ended l c.loop-i.i (length c.args.fields.now) c.requires.1 c.loop-i-test.false c.loop-i.auto.i-end in
-    sent l (map spelled c.args.fields.now) c.args.buffer.now c.write.new.buffer (λ k a b. c.loop-i.invariant k a (omega arith)) c.in-Some.count c.in-Some.ensures
+    let fs = c.args.fields.now in
+    let i = c.loop-i.i in
+    clean_more l (map spelled fs) i c.loop-i.invariant (ap (at_field (i + 2)) (sym (asked_item l fs c.requires.0 c.requires.1 i c.loop-i-test.true)) ∙ told_nothing _ _ c.in_ok-ask.ensures)
 
-pub returns-in-None : goal.returns-in-None
-returns-in-None c =
+pub returns : goal.returns
+returns c =
     let l = c.args.letter in
-    let end = ended l c.loop-i.i (length c.args.fields.now) c.requires.1 c.loop-i-test.false c.loop-i.auto.i-end in
-    unsent l (map spelled c.args.fields.now) c.args.buffer.now c.write.new.buffer (λ k a b. c.loop-i.invariant k a (omega arith)) c.in-None.ensures
+    let fs = c.args.fields.now in
+    let e : count l - 1 ≡ c.loop-i.i = omega (arith, items_counted fs, c.requires.1, c.loop-i.auto.i-end) in
+    rw (c.ok_or.ensures.value, c.of_line.ensures) (sent l (map spelled fs) c.args.buffer.now c.write.new.buffer c.write.result (ap (first_fault l (map spelled fs) 2) e ∙ c.loop-i.invariant) c.write.ensures)

@@ -1,23 +1,27 @@
+use Rattle.std.proofs.Common.{[], ◌∷◌, List, ℕ}
+use Rattle.std.proofs.lemmas.List.{drop_more, drop_all}
 use Rattle.std.proofs.lemmas.Result.{err_from_is_err_and}
-use Rattle.page.specs.Pages.{billed, unbilled}
-use Rattle.page.proofs.Playing.{last_billed}
+use Rattle.page.specs.Pages.{none, billed, unbilled}
 use Rattle.page.proofs.settling.bill_all.Goals as goal
 
+letters : List ℕ
+letters = 67 ∷ 78 ∷ 83 ∷ 84 ∷ []
+
+pub loop-letter-preserved : goal.loop-letter-preserved
+unfolding letters
+loop-letter-preserved g c = λ r ch p.
+    let next = drop_more letters c.loop-letter.letter-index 0 c.loop-letter-test.true in
+    c.loop-letter.invariant r ch (rw next (billed c.in_ok-bill.ensures p))
+
 pub returns-in_err-bill : goal.returns-in_err-bill
+unfolding letters
 returns-in_err-bill g c =
     let p = err_from_is_err_and c.from_residual.result c.from_residual.ensures.1 in
-    rw (p.1, p.2) (unbilled c.in_err-bill.ensures)
-
-pub returns-in_err-bill-2 : goal.returns-in_err-bill-2
-returns-in_err-bill-2 g c =
-    let p = err_from_is_err_and c.from_residual-in_err-bill-2.result c.from_residual-in_err-bill-2.ensures.1 in
-    rw (p.1, p.2) (billed c.in_ok-bill.ensures (unbilled c.in_err-bill-2.ensures))
-
-pub returns-in_err-bill-3 : goal.returns-in_err-bill-3
-returns-in_err-bill-3 g c =
-    let p = err_from_is_err_and c.from_residual-in_err-bill-3.result c.from_residual-in_err-bill-3.ensures.1 in
-    rw (p.1, p.2) (billed c.in_ok-bill.ensures (billed c.in_ok-bill-2.ensures (unbilled c.in_err-bill-3.ensures)))
+    let next = drop_more letters c.loop-letter.letter-index 0 c.loop-letter-test.true in
+    rw (p.1, p.2) (c.loop-letter.invariant _ _ (rw next (unbilled c.in_err-bill.ensures)))
 
 pub returns : goal.returns
+unfolding letters
 returns g c =
-    billed c.in_ok-bill.ensures (billed c.in_ok-bill-2.ensures (billed c.in_ok-bill-3.ensures (last_billed c.bill-4.result c.bill-4.ensures)))
+    let past = drop_all c.loop-letter.letter-index letters c.loop-letter-test.false in
+    c.loop-letter.invariant _ _ (rw past none)

@@ -1,43 +1,31 @@
-use Rattle.std.proofs.Common.{true, false, [], map, length, Ok, Err, sym, ap, ◌∙◌, subst, arith}
+use Rattle.std.proofs.Common.{map, Ok, sym, refl, ap, ◌∙◌, subst, rules}
+use Rattle.std.proofs.lemmas.Result.{err_from_is_err_and}
 use Rattle.register.specs.Register.{room, records}
-use Rattle.rows.specs.Rows.{parts_after}
 use Rattle.lines.specs.Lines.{line_of}
-use Rattle.page.specs.Pages.{LineEnters, Takes, no_more}
-use Rattle.page.proofs.Playing.{next_line, next_reading, take_enters, take_stops, take_refuses}
+use Rattle.page.specs.Pages.{Takes, no_more}
+use Rattle.page.proofs.Telling.{still_ok, told_as}
+use Rattle.page.proofs.Playing.{first_enters, first_stops, first_unentered}
 use Rattle.page.proofs.taking.enter_all.Goals as goal
+use Rattle.page.proofs.taking.enter_all.Goals.{in-Some+in_ok-map_err+then-not-branch, in_default}
 
-pub loop-rest-preserved : goal.loop-rest-preserved
-loop-rest-preserved g c =
-    let l = ap length (next_line c.loop-rest.rest c.in-Some.bytes c.split.result c.in-Some.is c.split.ensures) in
-    let inv = c.loop-rest.invariant in
-    let cs = records c.loop-rest.customers in
-    let n = c.loop-rest.number in
-    let places = room c.args.customers.now in
-    let line = subst (λ p. LineEnters p cs (line_of c.split.result.0.now) (Ok true) (records c.enter_line.new.customers)) inv.0 (subst (λ t. LineEnters (room c.loop-rest.customers) cs (line_of c.split.result.0.now) (Ok t) (records c.enter_line.new.customers)) c.if-not-entered.false c.in-Ok.ensures.done) in
-    (c.enter_line.ensures.places ∙ inv.0, omega (arith, inv.1), λ o p. inv.2 o (subst (λ rs. Takes places cs n rs o) (sym (next_reading c.loop-rest.rest c.in-Some.bytes c.split.result c.in-Some.is c.split.ensures)) (take_enters places cs n (map line_of (parts_after 10 c.split.result.1)) (records c.enter_line.new.customers) (line_of c.split.result.0.now) line o p)))
+pub loop-number-preserved : goal.loop-number-preserved
+loop-number-preserved g c =
+    let is = still_ok _ _ _ c.enter_line.result c.in_ok-map_err.field-0 c.in_ok-map_err.ensures.cases in
+    (refl, λ o t. c.loop-number.invariant.1 o (first_enters _ _ _ _ _ _ _ _ _ _ c.in-Some.ensures.steps c.enter_line.ensures.done (is ∙ ap Ok c.if-not-branch.false) c.enter_line.ensures.places o t))
 
-pub returns-then-not-entered : goal.returns-then-not-entered
-returns-then-not-entered g c =
-    let inv = c.loop-rest.invariant in
-    let cs = records c.loop-rest.customers in
-    let cs' = records c.enter_line.new.customers in
-    let n = c.loop-rest.number in
-    let places = room c.args.customers.now in
-    let line = subst (λ p. LineEnters p cs (line_of c.split.result.0.now) (Ok false) cs') inv.0 (subst (λ t. LineEnters (room c.loop-rest.customers) cs (line_of c.split.result.0.now) (Ok t) cs') c.if-not-entered.true c.in-Ok.ensures.done) in
-    inv.2 _ (subst (λ rs. Takes places cs n rs (Ok (record { customers = cs'; number = n; rest = rs }))) (sym (next_reading c.loop-rest.rest c.in-Some.bytes c.split.result c.in-Some.is c.split.ensures)) (take_stops places cs n (map line_of (parts_after 10 c.split.result.1)) cs' (line_of c.split.result.0.now) line))
-
-pub returns-in-Err : goal.returns-in-Err
-returns-in-Err g c =
-    let inv = c.loop-rest.invariant in
-    let cs = records c.loop-rest.customers in
-    let n = c.loop-rest.number in
-    let places = room c.args.customers.now in
-    let line = subst (λ p. LineEnters p cs (line_of c.split.result.0.now) (Err c.in-Err.cause) (records c.enter_line.new.customers)) inv.0 c.in-Err.ensures.done in
-    inv.2 _ (subst (λ rs. Takes places cs n rs (Err (record { line = n; cause = c.in-Err.cause }))) (sym (next_reading c.loop-rest.rest c.in-Some.bytes c.split.result c.in-Some.is c.split.ensures)) (take_refuses places cs n (map line_of (parts_after 10 c.split.result.1)) (records c.enter_line.new.customers) (line_of c.split.result.0.now) c.in-Err.cause line))
+pub returns-in_err-map_err : goal.returns-in_err-map_err
+returns-in_err-map_err g c =
+    let p = err_from_is_err_and c.from_residual.result c.from_residual.ensures.1 in
+    let t = told_as _ _ _ c.enter_line.result c.in_err-map_err.field-0.0 _ c.in_err-map_err.ensures.cases in
+    rw (p.1, p.2) (c.loop-number.invariant.1 _ (first_unentered _ 0 _ _ _ _ _ _ _ _ c.in-Some.ensures.steps c.enter_line.ensures.done t.0 c.in_err-map_err.field-0.0 t.1 (search rules)))
 
 pub returns : goal.returns
 returns g c =
-    let inv = c.loop-rest.invariant in
-    let places = room c.args.customers.now in
-    let cs = records c.loop-rest.customers in
-    inv.2 _ (subst (λ rs. Takes places cs c.loop-rest.number rs (Ok (record { customers = cs; number = c.loop-rest.number; rest = [] }))) (sym (ap (λ r. map line_of (parts_after 10 r)) c.in_default.is)) no_more)
+    let l = c.loop-number in
+    elim c.match-next.branch [
+      | in-Some+in_ok-map_err+then-not-branch w ↦
+          let is = still_ok _ _ _ w.enter_line.result w.in_ok-map_err.field-0 w.in_ok-map_err.ensures.cases in
+          rw (w.customers-is, l.invariant.0) (l.invariant.1 _ (first_stops _ 0 _ _ _ _ _ _ _ _ w.in-Some.ensures.steps w.enter_line.ensures.done (is ∙ ap Ok w.if-not-branch.true)))
+      | in_default w ↦
+          rw (w.customers-is, l.invariant.0) (l.invariant.1 _ (subst (λ ps. Takes (room l.customers) (records l.customers) l.after.number (map line_of ps) (Ok (record { customers = records l.customers; number = l.after.number; rest = map line_of ps }))) (sym w.in_default.ensures.steps) no_more))
+    ]

@@ -1,4 +1,4 @@
-use Rattle.std.proofs.Common.{◌≡◌, ℕ, min, List, [], ◌∷◌, ◌++◌, length, take, replicate, ℤ, pos, Ok, Err, Option, Result, sym, refl, ap, ◌∙◌, subst, Bor}
+use Rattle.std.proofs.Common.{◌≡◌, ℕ, min, List, [], ◌∷◌, ◌++◌, length, take, replicate, ℤ, pos, Ok, Err, Option, Result, sym, refl, ap, ◌∙◌, subst, rules, Bor}
 use Rattle.std.proofs.lemmas.List.{take_at}
 use Rattle.std.proofs.lemmas.Result.{err_from_is_err_and}
 use Rattle.units.specs.declared.header.Header.{Header}
@@ -8,11 +8,13 @@ use Rattle.book.specs.Rates.{Meaning}
 use Rattle.book.specs.declared.stages.Intake.{Intake}
 use Rattle.book.specs.declared.stages.ClosedBook.{ClosedBook}
 use Rattle.rows.specs.Rows.{parted, parts_after, all_parts}
+use Rattle.lines.specs.Lines.{line_of}
 use Rattle.page.specs.declared.fault.Cause.TheVariants.{Page}
 use Rattle.page.specs.declared.fault.Fault.{Fault}
 use Rattle.page.specs.declared.fault.Refusal.{Refusal}
 use Rattle.page.specs.declared.fault.Refusal.TheVariants.{TooLong, Unended, HeaderPlace, LateCustomer}
-use Rattle.page.specs.Pages.{Reading, at_line, intake_of, Leads, Bodies, page_lines, ComesTo, too_long, not_ended, headless, faulted, billed_page}
+use Rattle.page.specs.Pages.{Reading, at_line, intake_of, Leads, Bodies, Heads, page_lines, ComesTo, too_long, not_ended, headless, faulted, billed_page}
+use Rattle.page.proofs.Telling.{still_ok, told_as}
 use Rattle.page.proofs.Adding.{page_adds_up}
 use Rattle.page.proofs.whole.bill_page.Goals as goal
 
@@ -26,13 +28,24 @@ refused_page LateCustomer s = absurd s
 lines_are : (page : List ℕ) (body : Bor (List ℕ)) (r : Bor (List ℕ) × Option (Bor (List ℕ))) → Bodies page (Ok body) → all_parts 10 r ≡ parted 10 body.now → page_lines page ≡ r.0.now ∷ parts_after 10 r.1
 lines_are page body r s split = ap (parted 10) (sym s.2) ∙ sym split
 
-pub returns-in-Err : goal.returns-in-Err
-returns-in-Err g c = record { comes = refused_page c.in-Err.refusal c.in-Err.ensures; sums = tt }
+at_fault : {D : Type 0} {m : D → Meaning} {d : D} {page : List ℕ} {f f' : Fault} → f ≡ f' → ComesTo m d page (Err f') → ComesTo m d page (Err f)
+at_fault {D} {m} {d} {page} is x = subst (λ f. ComesTo m d page (Err f)) (sym is) x
 
-pub returns-in-Err-header_of : goal.returns-in-Err-header_of
-returns-in-Err-header_of g c =
-    let s = c.in-Ok.ensures in
-    record { comes = headless s.0 s.1 (lines_are c.args.page.now c.in-Ok.body c.split.result s c.split.ensures) c.in-Err-header_of.ensures; sums = tt }
+pub returns-in_err-body-clause-comes : goal.returns-in_err-body-clause-comes
+returns-in_err-body-clause-comes g c =
+    let p = err_from_is_err_and c.from_residual.result c.from_residual.ensures.1 in
+    let t = told_as _ _ _ c.body.result c.in_err-body.field-0.0 _ c.in_err-body.ensures.cases in
+    let at : c.in_err-body.field-0.0 ≡ at_line 0 (Page t.0) = search rules in
+    rw (p.1, p.2) (at_fault at (refused_page t.0 (subst (Bodies c.args.page.now) t.1 c.body.ensures)))
+
+pub returns-in_err-header-clause-comes : goal.returns-in_err-header-clause-comes
+returns-in_err-header-clause-comes g c =
+    let p = err_from_is_err_and c.from_residual-in_err-header.result c.from_residual-in_err-header.ensures.1 in
+    let b = still_ok _ _ _ c.body.result c.in_ok-body.body c.in_ok-body.ensures.cases in
+    let s : Bodies c.args.page.now (Ok c.in_ok-body.body) = subst (Bodies c.args.page.now) b c.body.ensures in
+    let t = told_as _ _ _ c.header_of.result c.in_err-header.field-0.0 _ c.in_err-header.ensures.cases in
+    let at : c.in_err-header.field-0.0 ≡ at_line 1 t.0 = search rules in
+    rw (p.1, p.2) (at_fault at (headless s.0 s.1 (lines_are c.args.page.now c.in_ok-body.body c.split.result s c.split.ensures) (subst (Heads (line_of c.split.result.0.now)) t.1 c.header_of.ensures)))
 
 -- over a register and a sheet of their own
 from_start : {D : Type 0} {m : D → Meaning} {d : D} {h : Header} {rs : List Reading} {r : Result (ClosedBook D) Fault} {cs' : List Customer} {ch' : List ℤ} (places : ℕ) (intake : Intake D) (cs : List Customer) (ch : List ℤ) → places ≡ 512 → intake.divider ≡ d → intake.header ≡ h → cs ≡ [] → ch ≡ replicate 2048 (pos 0) → Leads m places 512 intake cs ch rs r cs' ch' → Leads m 512 512 (intake_of d h) [] (replicate 2048 (pos 0)) rs r cs' ch'
@@ -40,12 +53,15 @@ from_start {D} {m} {d} {h} {rs} {r} {cs'} {ch'} places intake cs ch ep ed eh ec 
     let ei : intake ≡ intake_of d h = λ i. record { divider = ed i; header = eh i } in
     subst (λ ch. Leads m 512 512 (intake_of d h) [] ch rs r cs' ch') es (subst (λ cs. Leads m 512 512 (intake_of d h) cs ch rs r cs' ch') ec (subst (λ intake. Leads m 512 512 intake cs ch rs r cs' ch') ei (subst (λ places. Leads m places 512 intake cs ch rs r cs' ch') ep l)))
 
-pub returns-in_err-book : goal.returns-in_err-book
-returns-in_err-book g c =
-    let p = err_from_is_err_and c.from_residual.result c.from_residual.ensures.1 in
-    let s = c.in-Ok.ensures in
+pub returns-in_err-book-clause-comes : goal.returns-in_err-book-clause-comes
+returns-in_err-book-clause-comes g c =
+    let p = err_from_is_err_and c.from_residual-in_err-book.result c.from_residual-in_err-book.ensures.1 in
+    let b = still_ok _ _ _ c.body.result c.in_ok-body.body c.in_ok-body.ensures.cases in
+    let s : Bodies c.args.page.now (Ok c.in_ok-body.body) = subst (Bodies c.args.page.now) b c.body.ensures in
+    let h = still_ok _ _ _ c.header_of.result c.in_ok-header.header c.in_ok-header.ensures.cases in
+    let heads = subst (Heads (line_of c.split.result.0.now)) h c.header_of.ensures in
     let full : room c.new-customers.result ≡ 512 = ap (λ m. min (length m) 512) c.new-customers.ensures.memory in
-    rw (p.1, p.2) (record { comes = faulted s.0 s.1 (lines_are c.args.page.now c.in-Ok.body c.split.result s c.split.ensures) c.in-Ok-header_of.ensures (from_start (room c.new-customers.result) c.new-intake.result (records c.new-customers.result) _ full c.new-intake.ensures.divider c.new-intake.ensures.header c.new-customers.ensures.records refl c.in_err-book.ensures); sums = tt })
+    rw (p.1, p.2) (faulted s.0 s.1 (lines_are c.args.page.now c.in_ok-body.body c.split.result s c.split.ensures) heads (from_start (room c.new-customers.result) c.new-intake.result (records c.new-customers.result) _ full c.new-intake.ensures.divider c.new-intake.ensures.header c.new-customers.ensures.records refl c.in_err-book.ensures))
 
 -- the records that were copied stand in the first places
 copied : (xs rs cs rest : List Customer) → xs ≡ rs → rs ≡ cs → cs ≡ take (length rs) (xs ++ rest)
@@ -57,7 +73,10 @@ with_customers {D} {m} {d} {page} {b} {ch} is x =
 
 pub returns : goal.returns
 returns g c =
-    let s = c.in-Ok.ensures in
+    let b = still_ok _ _ _ c.body.result c.in_ok-body.body c.in_ok-body.ensures.cases in
+    let s : Bodies c.args.page.now (Ok c.in_ok-body.body) = subst (Bodies c.args.page.now) b c.body.ensures in
+    let h = still_ok _ _ _ c.header_of.result c.in_ok-header.header c.in_ok-header.ensures.cases in
+    let heads = subst (Heads (line_of c.split.result.0.now)) h c.header_of.ensures in
     let full : room c.new-customers.result ≡ 512 = ap (λ m. min (length m) 512) c.new-customers.ensures.memory in
-    let comes = with_customers (copied c.copy_from_slice.new.self c.records-records.result.now (records c.lead.new.customers) _ c.copy_from_slice.ensures.after c.records-records.ensures) (billed_page s.0 s.1 (lines_are c.args.page.now c.in-Ok.body c.split.result s c.split.ensures) c.in-Ok-header_of.ensures (from_start (room c.new-customers.result) c.new-intake.result (records c.new-customers.result) _ full c.new-intake.ensures.divider c.new-intake.ensures.header c.new-customers.ensures.records refl c.in_ok-book.ensures)) in
+    let comes = with_customers (copied c.copy_from_slice.new.self c.records-records.result.now (records c.lead.new.customers) _ c.copy_from_slice.ensures.after c.records-records.ensures) (billed_page s.0 s.1 (lines_are c.args.page.now c.in_ok-body.body c.split.result s c.split.ensures) heads (from_start (room c.new-customers.result) c.new-intake.result (records c.new-customers.result) _ full c.new-intake.ensures.divider c.new-intake.ensures.header c.new-customers.ensures.records refl c.in_ok-book.ensures)) in
     record { comes = comes; sums = page_adds_up g.D.Divider.meaning g.met.D.Divider.fair c.args.divider c.args.page.now _ comes }

@@ -1,78 +1,73 @@
-use Rattle.std.proofs.Common.{◌≡◌, ℕ, ◌+◌, ◌-◌, min, cond, eqb, List, [], map, length, ℤ, Err, Result, sym, ap, ◌∙◌, subst, arith}
-use Rattle.std.proofs.lemmas.List.{length-map}
+use Rattle.std.proofs.Common.{◌≡◌, ℕ, ◌+◌, ◌-◌, min, cond, eqb, List, [], map, length, ℤ, Err, Result, sym, ap, ◌∙◌, ⊎_elim, subst, arith, rules}
 use Rattle.std.proofs.lemmas.Result.{err_from_is_err_and}
-use Rattle.std.proofs.lemmas.Bool.{eq-eqb, ne_eqb}
+use Rattle.std.proofs.lemmas.List.{length-map}
+use Rattle.std.proofs.lemmas.Bool.{cases_eq, eq-eqb, ne_eqb}
 use Rattle.records.specs.declared.customer.Customer.{Customer}
 use Rattle.records.specs.declared.cost_line.CostLine.{CostLine}
 use Rattle.book.specs.Rates.{Meaning}
-use Rattle.book.specs.declared.refusal.Refusal as book
 use Rattle.book.specs.declared.stages.Intake.{Intake}
 use Rattle.book.specs.declared.stages.OpenBook.{OpenBook}
 use Rattle.register.specs.Register.{room, records}
 use Rattle.rows.specs.Rows.{parts_after}
-use Rattle.rows.proofs.Parts.{some_parts, none_after}
 use Rattle.lines.specs.Lines.{line_of}
 use Rattle.page.specs.declared.fault.Cause.TheVariants.{Book}
 use Rattle.page.specs.declared.fault.Fault.{Fault}
-use Rattle.page.specs.Pages.{Reading, Open, at_line, Plays, Leads, untaken, unfounded, unplayed, ends_refused, ends}
+use Rattle.page.specs.Pages.{Reading, Open, at_line, FoundsOn, Plays, Settles, Leads, readings, founding_line, untaken, unfounded, unplayed, ends_refused, ends}
+use Rattle.page.proofs.Telling.{still_ok, told_as, either_way}
 use Rattle.page.proofs.Playing.{takes_counts}
 use Rattle.page.proofs.whole.lead.Goals as goal
-use Rattle.page.proofs.whole.lead.Goals.{then-is_some, else-is_some}
 
 -- over a register of its own
 fresh : {D : Type 0} (places : ℕ) (b : OpenBook D) (cs : List Customer) (ls : List CostLine) (n : ℕ) (rs : List Reading) (o : Result (Open D) Fault) → places ≡ 512 → ls ≡ [] → Plays places b cs ls n rs o → Plays 512 b cs [] n rs o
 fresh places b cs ls n rs o room none p =
     subst (λ ls. Plays 512 b cs ls n rs o) none (subst (λ places. Plays places b cs ls n rs o) room p)
 
-at_same_line : {D : Type 0} {m : D → Meaning} {p q : ℕ} {intake : Intake D} {cs cs' : List Customer} {ch ch' : List ℤ} {rs : List Reading} {e : book.Refusal} {k l : ℕ} → l ≡ k → Leads m p q intake cs ch rs (Err (at_line k (Book e))) cs' ch' → Leads m p q intake cs ch rs (Err (at_line l (Book e))) cs' ch'
-at_same_line {D} {m} {p} {q} {intake} {cs} {cs'} {ch} {ch'} {rs} {e} is x =
-    subst (λ l. Leads m p q intake cs ch rs (Err (at_line l (Book e))) cs' ch') (sym is) x
+at_fault : {D : Type 0} {m : D → Meaning} {p q : ℕ} {intake : Intake D} {cs cs' : List Customer} {ch ch' : List ℤ} {rs : List Reading} {f f' : Fault} → f ≡ f' → Leads m p q intake cs ch rs (Err f') cs' ch' → Leads m p q intake cs ch rs (Err f) cs' ch'
+at_fault {D} {m} {p} {q} {intake} {cs} {cs'} {ch} {ch'} {rs} is x =
+    subst (λ f. Leads m p q intake cs ch rs (Err f) cs' ch') (sym is) x
 
-pub returns-in_err-number : goal.returns-in_err-number
-returns-in_err-number g c =
+-- a book is founded at the first line left, or at the last
+founded_at : (n last left : ℕ) → n + left ≡ last + 1 → min n last ≡ cond (eqb left 0) (n - 1) n
+founded_at n last left e =
+    ⊎_elim
+    (λ (none : left ≡ 0). rw (eq-eqb left 0 none) (omega arith))
+    (λ (some : left ≡ 0 → ⊥). rw (ne_eqb left 0 some) (omega arith))
+    (cases_eq left 0)
+
+pub returns-in_err-lines : goal.returns-in_err-lines
+returns-in_err-lines g c =
     let p = err_from_is_err_and c.from_residual.result c.from_residual.ensures.1 in
-    rw (p.1, p.2) (untaken c.in_err-number.ensures)
+    rw (p.1, p.2) (untaken c.in_err-lines.ensures)
 
-pub overflow_sub-line : goal.overflow_sub-line
-overflow_sub-line g c = let n = takes_counts c.in_ok-number.ensures in omega arith
-
-pub returns-in-Err : goal.returns-in-Err
-returns-in-Err g c =
-    let rest = parts_after 10 c.in_ok-number.rest in
-    let n = c.in_ok-number.number in
-    let many = length-map rest line_of in
-    let line : c.if-is_some.line ≡ cond (eqb (length (map line_of rest)) 0) (n - 1) n = elim c.if-is_some.branch [
-      | then-is_some w ↦
-          let some = some_parts 10 c.in_ok-number.rest (sym w.if-is_some.ensures) in
-          let t = ne_eqb (length (map line_of rest)) 0 (λ e. omega arith) in
-          rw t w.line-is
-      | else-is_some w ↦
-          let none = ap length (none_after 10 c.in_ok-number.rest (sym w.if-is_some.ensures)) in
-          let t = eq-eqb (length (map line_of rest)) 0 (omega arith) in
-          rw t w.line-is
-    ] in
-    at_same_line line (unfounded c.in_ok-number.ensures c.in-Err.ensures)
-
-pub act_all-requires : goal.act_all-requires
-act_all-requires g c =
-    let n = (takes_counts c.in_ok-number.ensures).1 in
-    let a = length-map (parts_after 10 c.in_ok-number.rest) line_of in
-    let b = length-map (parts_after 10 c.args.rest) line_of in
-    omega (arith, c.requires.0, c.requires.1)
+pub returns-in_err-book : goal.returns-in_err-book
+returns-in_err-book g c =
+    let p = err_from_is_err_and c.from_residual-in_err-book.result c.from_residual-in_err-book.ensures.1 in
+    let t = told_as _ _ _ c.found.result c.in_err-book.field-0.0 _ c.in_err-book.ensures.cases in
+    let lines = c.in_ok-lines.lines in
+    let counts = takes_counts c.in_ok-lines.ensures in
+    let many = length-map (parts_after 10 c.args.rest) line_of in
+    let at : c.min-line.result ≡ founding_line (record { customers = records c.enter_all.new.customers; number = lines.number; rest = readings lines }) = c.min-line.ensures ∙ founded_at lines.number c.args.last (length (readings lines)) (omega (arith, counts.1, c.requires.0)) in
+    let e : c.in_err-book.field-0.0 ≡ at_line c.min-line.result (Book t.0.1) = search rules in
+    rw (p.1, p.2) (at_fault (e ∙ ap (λ n. at_line n (Book t.0.1)) at) (unfounded c.in_ok-lines.ensures (subst (λ r. FoundsOn g.D.Divider.meaning c.args.intake (records c.enter_all.new.customers) r (records c.found.new.customers)) t.1 c.found.ensures)))
 
 pub returns-in_err-act_all : goal.returns-in_err-act_all
 returns-in_err-act_all g c =
     let p = err_from_is_err_and c.from_residual-in_err-act_all.result c.from_residual-in_err-act_all.ensures.1 in
+    let is = still_ok _ _ _ c.found.result c.in_ok-book.book c.in_ok-book.ensures.cases in
+    let founds = subst (λ r. FoundsOn g.D.Divider.meaning c.args.intake (records c.enter_all.new.customers) r (records c.found.new.customers)) is c.found.ensures in
     let full : room c.new-costs.result ≡ 512 = ap (λ m. min (length m) 512) c.new-costs.ensures.memory in
-    rw (p.1, p.2) (unplayed c.in_ok-number.ensures c.in-Ok.ensures (fresh (room c.new-costs.result) c.in-Ok.book _ (records c.new-costs.result) c.in_ok-number.number _ _ full c.new-costs.ensures.records c.in_err-act_all.ensures))
+    rw (p.1, p.2) (unplayed c.in_ok-lines.ensures founds (fresh (room c.new-costs.result) c.in_ok-book.book _ (records c.new-costs.result) c.in_ok-lines.lines.number _ _ full c.new-costs.ensures.records c.in_err-act_all.ensures))
 
-pub returns-in-Ok-settle : goal.returns-in-Ok-settle
-returns-in-Ok-settle g c =
+pub returns : goal.returns
+returns g c =
+    let is = still_ok _ _ _ c.found.result c.in_ok-book.book c.in_ok-book.ensures.cases in
+    let founds = subst (λ r. FoundsOn g.D.Divider.meaning c.args.intake (records c.enter_all.new.customers) r (records c.found.new.customers)) is c.found.ensures in
     let full : room c.new-costs.result ≡ 512 = ap (λ m. min (length m) 512) c.new-costs.ensures.memory in
-    ends c.in_ok-number.ensures c.in-Ok.ensures (fresh (room c.new-costs.result) c.in-Ok.book _ (records c.new-costs.result) c.in_ok-number.number _ _ full c.new-costs.ensures.records c.in_ok-act_all.ensures) c.in-Ok-settle.ensures
-
-pub returns-in-Err-settle : goal.returns-in-Err-settle
-returns-in-Err-settle g c =
-    let full : room c.new-costs.result ≡ 512 = ap (λ m. min (length m) 512) c.new-costs.ensures.memory in
-    let line : c.args.last ≡ length (map line_of (parts_after 10 c.args.rest)) + 1 = c.requires.0 ∙ ap (λ n. n + 1) (sym (length-map (parts_after 10 c.args.rest) line_of)) in
-    at_same_line line (ends_refused c.in_ok-number.ensures c.in-Ok.ensures (fresh (room c.new-costs.result) c.in-Ok.book _ (records c.new-costs.result) c.in_ok-number.number _ _ full c.new-costs.ensures.records c.in_ok-act_all.ensures) c.in-Err-settle.ensures)
+    let plays = fresh (room c.new-costs.result) c.in_ok-book.book _ (records c.new-costs.result) c.in_ok-lines.lines.number _ _ full c.new-costs.ensures.records c.in_ok-act_all.ensures in
+    either_way _ _ _ (λ r. Leads g.D.Divider.meaning (room c.args.customers.now) 512 c.args.intake (records c.args.customers.now) c.args.charges.now (map line_of (parts_after 10 c.args.rest)) r (records c.settle.new.customers) c.settle.new.charges) c.settle.result c.map_err-2.result _ c.map_err-2.ensures.cases
+    (λ x is. ends c.in_ok-lines.ensures founds plays (subst (λ r. Settles g.D.Divider.meaning c.act_all.new.book (records c.act_all.new.customers) c.args.charges.now r (records c.settle.new.customers) c.settle.new.charges) is c.settle.ensures))
+    (λ e f is q.
+    let many = length-map (parts_after 10 c.args.rest) line_of in
+    let at : f ≡ at_line c.args.last (Book e) = search rules in
+    let last : c.args.last ≡ length (map line_of (parts_after 10 c.args.rest)) + 1 = omega (arith, c.requires.0) in
+    at_fault (at ∙ ap (λ n. at_line n (Book e)) last) (ends_refused c.in_ok-lines.ensures founds plays (subst (λ r. Settles g.D.Divider.meaning c.act_all.new.book (records c.act_all.new.customers) c.args.charges.now r (records c.settle.new.customers) c.settle.new.charges) is c.settle.ensures)))

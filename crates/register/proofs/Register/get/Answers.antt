@@ -4,8 +4,5 @@ use Rattle.register.proofs.Register.get.Goals as goal
 
 pub returns : goal.returns
 returns g c =
-    let rs = records c.args.self.now in
-    let same = c.records-records.ensures in
     let there = c.in_ok-at.ensures in
-    let stands = c.index-records-at.is in
-    lookup-place_of g.R.Keyed.key c.args.number c.in_ok-at.at c.index-records-at.result rs there.0 there.1 (cc)
+    lookup-place_of g.R.Keyed.key c.args.number c.in_ok-at.at c.index-records-at.result (records c.args.self.now) there.0 there.1 (cc)

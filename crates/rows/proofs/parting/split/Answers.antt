@@ -1,23 +1,22 @@
-use Rattle.std.proofs.Common.{◌+◌, ◌∷◌, take, sym, ap, ◌∙◌}
+use Rattle.std.proofs.Common.{◌+◌, ◌∷◌, ◌==◌, take, sym, ap, ◌∙◌, rules, tests}
 use Rattle.std.proofs.lemmas.List.{take_rest}
+use Rattle.std.proofs.lemmas.Iterator.{YieldsList-from_slice}
+use Rattle.std.proofs.lemmas.Iterator.Search.{position_from_yields_List}
 use Rattle.rows.specs.Rows.{parted}
-use Rattle.rows.proofs.Parts.{split_more, split_here, split_all, split_none}
+use Rattle.rows.proofs.Parts.{split_at, split_none}
 use Rattle.rows.proofs.parting.split.Goals as goal
 
-pub returns-then-bytes-i : goal.returns-then-bytes-i
-returns-then-bytes-i c =
+pub returns-in-Some : goal.returns-in-Some
+returns-in-Some c =
     let s = c.args.separator in
     let bs = c.args.bytes.now in
-    let i = c.loop-i.i in
-    ap (λ ds. take i bs ∷ parted s ds) (take_rest bs (i + 1)) ∙ split_here s bs i c.loop-i-test.true c.if-bytes-i.true ∙ c.loop-i.invariant
+    let i = c.in-Some.at in
+    let e = position_from_yields_List (λ b. b == s) _ _ c.position.result c.position.ensures.ran (YieldsList-from_slice bs (cc)) (λ x b q k. search (rules, tests)) in
+    ap (λ ds. take i bs ∷ parted s ds) (take_rest bs (i + 1)) ∙ split_at s bs i (sym e ∙ c.in-Some.is)
 
-pub loop-i-init : goal.loop-i-init
-loop-i-init c = split_none c.args.separator c.args.bytes.now
-
-pub loop-i-preserved : goal.loop-i-preserved
-loop-i-preserved c =
-    sym (split_more c.args.separator c.args.bytes.now c.loop-i.i c.loop-i-test.true c.if-bytes-i.false) ∙ c.loop-i.invariant
-
-pub returns : goal.returns
-returns c =
-    split_all c.args.separator c.args.bytes.now c.loop-i.i c.loop-i-test.false ∙ c.loop-i.invariant
+pub returns-in-None : goal.returns-in-None
+returns-in-None c =
+    let s = c.args.separator in
+    let bs = c.args.bytes.now in
+    let e = position_from_yields_List (λ b. b == s) _ _ c.position.result c.position.ensures.ran (YieldsList-from_slice bs (cc)) (λ x b q k. search (rules, tests)) in
+    split_none s bs (sym e ∙ c.in-None.is)

@@ -1,9 +1,10 @@
-use Rattle.std.proofs.Common.{◌≡◌, length}
-use Rattle.rows.specs.Rows.{put}
-use Rattle.rows.proofs.Joining.{front}
+use Rattle.std.proofs.Common.{◌≡◌, List, ℕ, ◌++◌, drop}
+use Rattle.rows.specs.Rows.{row}
+use Rattle.rows.proofs.Joining.{rest}
+use Rattle.rows.proofs.Placing.{Written}
 use Rattle.rows.proofs.writing.write.Given as goal
 
--- The first fields are written.
+-- Some bytes of the row are written, and the fields from here on have those behind them.
 abbrev pub invariant-loop-i : goal.invariant-loop-i
 invariant-loop-i l =
-    (l.at ≡ length (front l.fields l.i)) × (l.buffer ≡ put l.initial.buffer 0 (front l.fields l.i))
+    (done : List ℕ) × Written done l.initial.buffer l.buffer l.at × (done ++ rest l.i (drop l.i l.fields) l.end ≡ row l.fields l.end)

@@ -1,5 +1,4 @@
-use Rattle.std.proofs.Common.{map, vec_items, string_bytes, sym, ap, ◌∙◌}
-use Rattle.std.proofs.lemmas.List.{take_all}
+use Rattle.std.proofs.Common.{vec_items, string_bytes}
 use Rattle.sharing.proofs.Words.{first_bad, words_more}
 use Rattle.sharing.proofs.request.figures_of.Goals as goal
 
@@ -10,6 +9,3 @@ returns-in-Err c =
 
 pub loop-i-preserved : goal.loop-i-preserved
 loop-i-preserved c = words_more string_bytes c.args.words.now c.loop-i.i c.loop-i-test.true c.index-words-i.result c.index-words-i.is c.as_bytes.result.now c.in-Ok.figure (vec_items c.loop-i.found) (vec_items c.push.new.self) c.as_bytes.ensures.value c.in-Ok.ensures.reads c.in-Ok.ensures.written c.in_ok-push-in-Ok.ensures.items c.loop-i.invariant
-
-pub returns : goal.returns
-returns c = ap (map string_bytes) (sym (take_all c.loop-i.i c.args.words.now c.loop-i-test.false)) ∙ c.loop-i.invariant.0

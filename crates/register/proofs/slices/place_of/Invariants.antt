@@ -1,6 +1,0 @@
-use Rattle.std.proofs.Common.{◌≡◌, ◌+◌, drop}
-use Rattle.register.specs.Records.{place_of}
-use Rattle.register.proofs.slices.place_of.Given as goal
-
-abbrev pub invariant-loop-i : goal.invariant-loop-i
-invariant-loop-i g l = l.i + place_of g.R.Keyed.key l.number (drop l.i l.records) ≡ place_of g.R.Keyed.key l.number l.records
