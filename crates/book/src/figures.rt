@@ -15,6 +15,8 @@ pub struct Figures {
 }
 
 /// What a cost line is to do, with pools by their letters.
+// Not one type with `records::Entry`: letters may name no pool, and no record
+// holds one.
 #[derive(Clone, Copy)]
 pub enum Posting {
     /// An expense of a pool.

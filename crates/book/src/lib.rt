@@ -4,6 +4,8 @@
 //! A book holds its divider and plain numbers. The registers of customers and
 //! cost lines, and the sheets, are given to each call. A call that refuses
 //! leaves all of them as they were, but for landings that send their load home.
+//! What a call answers and what its register keeps are clauses of their own,
+//! since callers cite them one by one.
 #![tactic(auto)]
 
 mod amounts;

@@ -129,7 +129,8 @@ impl<D> OpenBook<D> {
         }
     }
 
-    // Lowers the sides that a line raised.
+    // Lowers the sides that a line raised. Not one function with `raise`, which
+    // asks for room where this one asks for cents.
     fn lower(&mut self, line: CostLine)
         requires { all_hold self.old.costs self.old.credits line.entry line.cents ≡ true }
         ensures { self.new ≡ striking self.old line.entry line.cents }

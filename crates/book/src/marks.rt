@@ -141,6 +141,7 @@ impl<D> OpenBook<D> {
     {
         let giver = parcel.open();
         let from = giver_of(customers, giver)?;
+        // No `?`, since the load goes home first.
         let Ok(to) = customers.get(receiver) else {
             put_back(customers, from)?;
             return Err(Refusal::NoReceiver);

@@ -21,10 +21,11 @@ fn divide_first<D: Divider>(divider: &D, total: u64, n: usize, weights: &[u64], 
     requires passes { Passes total (take n weights.now) }
     ensures { shares.new ≡ on_top (D.Divider.meaning divider.now total (take n weights.now)) shares.old }
 {
-    let _ = divider.divide(total, &weights[0..n], &mut shares[0..n]);
+    let _ = divider.divide(total, &weights[..n], &mut shares[..n]);
 }
 
-// Divides a total by what the customers weigh, over the first places of both sheets.
+// Divides a total by what the customers weigh, over the first places of both
+// sheets. They are lent to each call of the book, so no struct holds them.
 pub(crate) fn divide_by<D: Divider, F: Fn(&Customer) -> u64>(
     divider: &D,
     total: u64,

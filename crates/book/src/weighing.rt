@@ -46,5 +46,6 @@ pub(crate) fn wide(n: usize, weights: &[u64], shares: &[u64]) -> bool
 pub(crate) fn divisible(total: u64, sum: u128) -> bool
     ensures { result ≡ divisible total sum }
 {
-    sum <= LIMIT as u128 && total as u128 * sum <= LIMIT as u128
+    let limit = u128::from(LIMIT);
+    sum <= limit && u128::from(total) * sum <= limit
 }

@@ -24,6 +24,8 @@ fn answer<D: Divider>(divider: &D, total: u64, weights: &[u64], sheet: &mut [u64
     }
 }
 
+// Two functions, since C has no generic one.
+
 /// Divides `total` by `weights` by largest remainder.
 #[unsafe(no_mangle)]
 pub extern "C" fn divide_largest(total: u64, weights: &[u64], sheet: &mut [u64]) -> u8

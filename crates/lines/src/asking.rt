@@ -41,7 +41,7 @@ fn is_other_pool(letter: char, field: Field<'_>) -> bool
 }
 
 // What is told of the field at a place, which is lawful or refused.
-fn told(lawful: bool, place: usize, refusal: Refusal) -> Result<(), Fault>
+fn answer(lawful: bool, place: usize, refusal: Refusal) -> Result<(), Fault>
     ensures { result ≡ (if lawful then Ok tt else Err (record { field = place; refusal = refusal })) }
 {
     if !lawful {
@@ -63,15 +63,16 @@ pub(crate) fn ask(
     ensures { result ≡ told tt (at_field place (asks (kind letter place) letter place (spelled field.entry) (spelled third.entry))) }
 {
     match field {
-        Field::Figure(n) => told(in_range(letter, place, n), place, Refusal::OutOfRange),
-        Field::Text(name) => told(is_name(name), place, Refusal::NotAName),
-        Field::Letter(pool) if place > 3 => told(
+        Field::Figure(n) => answer(in_range(letter, place, n), place, Refusal::OutOfRange),
+        Field::Text(name) => answer(is_name(name), place, Refusal::NotAName),
+        // By place: a field doesn't say which of a shift's pools it holds.
+        Field::Letter(pool) if place > 3 => answer(
             is_other_pool(pool, third),
             place,
             Refusal::UnknownPool,
         ),
-        Field::Letter(pool) => told(is_pool(pool), place, Refusal::UnknownPool),
-        Field::Minus(_) => told(false, place, Refusal::OutOfRange),
+        Field::Letter(pool) => answer(is_pool(pool), place, Refusal::UnknownPool),
+        Field::Minus(_) => answer(false, place, Refusal::OutOfRange),
     }
 }
 

@@ -5,7 +5,7 @@ ghost use Rattle.lines.specs.Forms.{letter_of, count};
 use units::Letter;
 
 /// The letter of a line, by its first field.
-// An Option and no TryFrom, which would be public, since `Letter` is.
+// An Option and no TryFrom, since `Letter` is a type of another crate.
 pub(crate) fn letter_of(bytes: &[u8]) -> Option<Letter>
     ensures { result ≡ letter_of bytes.now }
 {

@@ -1,10 +1,10 @@
 //! A line is read.
-ghost use Rattle.std.specs.Prelude.{◌≡◌, ◌≤◌, ◌<◌, ◌^◌, true, IfOk, None, Err, MatchResult};
+ghost use Rattle.std.specs.Prelude.{◌≡◌, ◌<◌, ◌^◌, true, IfOk, None};
 ghost use Rattle.units.specs.Ranges.{range};
 ghost use Rattle.units.specs.declared.ranges.Letter.TheVariants.{Customer, Shift};
 ghost use Rattle.book.specs.declared.figures.Posting.TheVariants as posting;
-ghost use Rattle.lines.specs.Forms.{field, count, kind, Figure};
-ghost use Rattle.lines.specs.Lines.{contents, written, fault_in, ranged, answer_of, line_of, read_fields, figure, pool};
+ghost use Rattle.lines.specs.Forms.{field, Figure};
+ghost use Rattle.lines.specs.Lines.{contents, written, fault_in, ranged, answer_of, line_of, figure, pool};
 ghost use Rattle.lines.specs.Reading.{all, Due, Takes, TakesAll};
 
 use crate::fault::Fault;

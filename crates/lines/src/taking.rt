@@ -26,7 +26,7 @@ pub(crate) struct Fields<'a> {
 
 impl<'a> Fields<'a> {
     ghost use Rattle.std.specs.Prelude.{MatchResult, Err};
-    ghost use Rattle.lines.specs.Forms.{count, kind, Figure, Name, Pool, OtherPool};
+    ghost use Rattle.lines.specs.Forms.{count, Figure, Name, Pool, OtherPool};
     ghost use Rattle.lines.specs.Lines.{read_fields, faults, figure, pool};
     ghost use Rattle.lines.specs.Questions.{asked};
     ghost use Rattle.lines.specs.Reading.{all, Due, Next, Refuses, Taken, Takes};
@@ -59,7 +59,7 @@ impl<'a> Fields<'a> {
     }
 
     // The bytes of the next field, and what stands after it.
-    fn next(&self) -> Result<(&'a [u8], Option<&'a [u8]>), Fault>
+    fn peek(&self) -> Result<(&'a [u8], Option<&'a [u8]>), Fault>
         requires { self.now.place ≤ count self.now.letter }
         ensures { MatchResult result (λ p. Next self.now p.0.now p.1) (Refuses self.now) }
     {
@@ -82,7 +82,8 @@ impl<'a> Fields<'a> {
     }
 
     // Each kind of field has a match of its own: one for all, generic in what
-    // it answers, would copy every answer, which is slower.
+    // it answers, would copy every answer, which is slower. No `map_err`, since
+    // a fault may be asked for only of the field that is refused.
 
     /// The next field, a figure. Inlined, its range is known where it is read.
     #[inline(always)]
@@ -90,7 +91,7 @@ impl<'a> Fields<'a> {
         requires { Due Figure self.old }
         ensures { Takes 1 self.old self.new result (λ n. n ≡ figure (field (all self.old)) self.old.place) }
     {
-        let (bytes, rest) = self.next()?;
+        let (bytes, rest) = self.peek()?;
         match figure_in(self.letter, self.place, bytes) {
             Ok(figure) => {
                 self.pass(rest);
@@ -105,7 +106,7 @@ impl<'a> Fields<'a> {
         requires { Due Name self.old }
         ensures { Takes 1 self.old self.new result (λ n. n.now ≡ field (all self.old) self.old.place) }
     {
-        let (bytes, rest) = self.next()?;
+        let (bytes, rest) = self.peek()?;
         match name_in(bytes) {
             Ok(name) => {
                 self.pass(rest);
@@ -120,7 +121,7 @@ impl<'a> Fields<'a> {
         requires { Due Pool self.old }
         ensures { Takes 1 self.old self.new result (λ c. c ≡ pool (field (all self.old)) self.old.place) }
     {
-        let (bytes, rest) = self.next()?;
+        let (bytes, rest) = self.peek()?;
         match pool_in(bytes) {
             Ok(pool) => {
                 self.pass(rest);
@@ -137,7 +138,7 @@ impl<'a> Fields<'a> {
         requires first { first ≡ pool (field (all self.old)) 3 }
         ensures { Takes 1 self.old self.new result (λ c. c ≡ pool (field (all self.old)) self.old.place) }
     {
-        let (bytes, rest) = self.next()?;
+        let (bytes, rest) = self.peek()?;
         match other_pool_in(bytes, first) {
             Ok(pool) => {
                 self.pass(rest);

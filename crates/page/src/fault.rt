@@ -81,7 +81,7 @@ impl Cause {
         }
     }
 
-    /// The field that it names; 0 for none.
+    /// The field that it names; 0 for none, as the row of a fault writes it.
     pub fn field(self) -> usize
         ensures { result ≡ field self }
     {

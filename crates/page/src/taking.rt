@@ -53,6 +53,7 @@ pub(crate) fn enter_all<'a, D>(
 ) -> Result<Lines<'a>, Fault>
     ensures { Takes (room customers.old) (records customers.old) lines.entry.number (readings lines.entry) (taken result (records customers.new)) }
 {
+    // No `for`, since the lines from the first other one on are handed on.
     let mut after = lines;
     while let Some((number, line)) = after.next() {
         if !enter_line(intake, line, customers).map_err(|cause| cause.at(number))? {

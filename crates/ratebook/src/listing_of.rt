@@ -40,7 +40,7 @@ pub(crate) fn write_listing<D>(billed: &mut Billed<D>, page: &[u8], output: &mut
 {
     let customers = Register::of(&mut billed.customers, billed.standing);
     let mut at = 0;
-    // No `for` over `page.split(..)`: in a generic function it takes no invariant.
+    // No `for` over `page.split(..)`, which takes no invariant beside a type parameter.
     let mut rest = Some(page);
     while let Some(bytes) = rest {
         let (line, after) = rows::split(bytes, b'\n');

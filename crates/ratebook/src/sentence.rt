@@ -1,4 +1,5 @@
-//! What is wrong with a page, in words.
+//! What is wrong with a page, in words. The texts stand here, and in no Display
+//! of the refusals, since the page programs alone print them.
 use page::{Cause, Fault, Refusal};
 use std::fmt;
 use std::str::from_utf8;
@@ -22,8 +23,7 @@ fn figure_words(bytes: &[u8]) -> &'static str {
     }
 }
 
-// What is wrong with a line. The texts stand here and in no Display of the
-// refusals, which would be public, with no contract on what it prints.
+// What is wrong with a line.
 fn line_words(refusal: lines::Refusal, bytes: &[u8]) -> &'static str {
     match refusal {
         lines::Refusal::UnknownLetter => "a line begins with H, C, E, R, A, G or T and a comma",

@@ -32,9 +32,10 @@ pub trait Keyed: Copy {
 }
 
 /// Records of one kind, in rising order of their numbers, no number twice.
-// A slice that is lent and a count, and no Vec: a register allocates nothing, and any memory will do.
-// No Model: the calls promise the memory and its lender beside the records, so the view would be the
-// fields again. Rising order is no invariant, since `of` takes any records.
+// A slice that is lent and a count, and no Vec: a register allocates nothing,
+// and any memory will do. No Model: the calls promise the memory and its lender
+// beside the records, so the view would be the fields again. Rising order is no
+// invariant, since `of` takes any records.
 #[derive(Drop)]
 pub struct Register<'a, R> {
     places: &'a mut [R],

@@ -62,7 +62,7 @@ fn put_figure(buffer: &mut [u8], n: u64) -> usize
 {
     let count = digits(n);
     let mut left = n;
-    // By place, since what iter_mut lends is not known after its loop.
+    // By place, since nothing is known of what a `rev` of `iter_mut` wrote.
     for place in (0..count).rev() {
         buffer[place] = b'0' + (left % 10) as u8;
         left /= 10;

@@ -14,6 +14,7 @@ use divider::{Divider, Refusal, weigh};
 use largest::LargestRemainder;
 use running::RunningSums;
 use std::alloc::{AllocError, AllocFailed, Global};
+use std::fmt;
 
 mod fault;
 mod request;
@@ -44,7 +45,8 @@ impl From<Refusal> for Fault {
     }
 }
 
-// std has two errors for want of memory, and `?` meets both.
+// std has several errors that mean want of memory here, and a caller's `?`
+// takes each.
 impl From<AllocError> for Fault {
     ghost from_gives = { λ e f. f ≡ NoMemory };
 
@@ -57,6 +59,14 @@ impl<T: Drop> From<AllocFailed<T>> for Fault {
     ghost from_gives = { λ e f. f ≡ NoMemory };
 
     fn from(_e: AllocFailed<T>) -> Fault {
+        Fault::NoMemory
+    }
+}
+
+impl From<fmt::Error> for Fault {
+    ghost from_gives = { λ e f. f ≡ NoMemory };
+
+    fn from(_e: fmt::Error) -> Fault {
         Fault::NoMemory
     }
 }

@@ -20,7 +20,7 @@ fn figures_of(heap: Global, words: &[String]) -> Result<Vec<u64>, Fault>
     ensures { Figures (map string_bytes words.now) result }
 {
     let mut found = Vec::new(heap);
-    // A match, since the place of the word goes into its fault.
+    // A match: under `map_err` no proof was found that the fault is this one.
     for (i, word) in words.iter().enumerate() {
         match figures::read(word.as_bytes()) {
             Ok(figure) => found.push(figure)?,

@@ -7,6 +7,7 @@ use crate::load::Load;
 use crate::ranges::{Letter, Refusal, in_range};
 
 /// A cost amount: whole cents, from 1 to 100,000,000,000.
+// Not one type with `Load`, so that money never stands where a load is wanted.
 #[derive(Clone, Copy)]
 pub struct Cents {
     amount: u64,

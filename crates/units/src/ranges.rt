@@ -1,6 +1,6 @@
 //! The lowest and the highest of every figure, by the letter of its line and its field.
-ghost use Rattle.std.specs.Prelude.{◌≡◌, ◌<◌};
-ghost use Rattle.units.specs.Ranges.{number, row, range, in_range};
+ghost use Rattle.std.specs.Prelude.{◌≡◌};
+ghost use Rattle.units.specs.Ranges.{number, range, in_range};
 
 /// Why a figure is refused.
 #[derive(Clone, Copy, PartialEq, Eq, Debug)]
@@ -38,13 +38,14 @@ pub enum Letter {
     Transfer,
 }
 
-// No figure: a name, a pool's letter, or no field at all.
+// No figure: a name, a pool's letter, or no field at all. A range and no
+// Option, since `range` answers one for every field.
 const NONE: (u64, u64) = (1, 0);
 
 /// The lowest and the highest of every figure: a row for each letter, in the
 /// order of `Letter`, and a place for each field after the letter. A field
 /// that holds no figure has the range from 1 to 0, in which nothing lies.
-const RANGES: [&[(u64, u64)]; 7] = [
+static RANGES: [&[(u64, u64)]; 7] = [
     &[(1, 20_000_000), (0, 20_000_000)],
     &[
         (1, 9_999),

@@ -185,7 +185,7 @@ fn settle(
             tell(rt, "billing", bill_all(&closed, customers, &mut charges))?;
             print_all(rt, customers, &charges)
         }
-        Err(back) => tell(rt, "closing", Err(back.1)),
+        Err((_, refusal)) => tell(rt, "closing", Err(refusal)),
     }
 }
 
@@ -199,7 +199,7 @@ fn run(rt: &HostRuntime, header: Header, granted: u64) -> io::Result<()> {
     tell(rt, "entering", enter_all(&intake, &mut customers))?;
     match runs::found(intake, &mut customers, &mut [0; 3], &mut [0; 3]) {
         Ok(book) => settle(rt, book, &mut customers, &mut lines, granted),
-        Err(back) => tell(rt, "founding", Err(back.1)),
+        Err((_, refusal)) => tell(rt, "founding", Err(refusal)),
     }
 }
 

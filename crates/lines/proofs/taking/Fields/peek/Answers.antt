@@ -3,7 +3,7 @@ use Rattle.std.proofs.lemmas.List.{length-drop}
 use Rattle.rows.specs.Rows.{parts_after}
 use Rattle.lines.specs.Reading.{all}
 use Rattle.lines.proofs.Walking.{miscounted, next_is, next_rest, next_within}
-use Rattle.lines.proofs.taking.Fields.next.Goals as goal
+use Rattle.lines.proofs.taking.Fields.peek.Goals as goal
 
 pub returns-in_default : goal.returns-in_default
 returns-in_default c =
