@@ -29,7 +29,7 @@ impl<D: Divider> OpenBook<D> {
         shares: &mut [u64],
     ) -> Result<ClosedBook<D>, (OpenBook<D>, Refusal)>
         ensures done { Closes D.Divider.meaning self (records customers.old) weights.old shares.old result (records customers.new) weights.new shares.new }
-        ensures kept { Kept key customers.old customers.new }
+        ensures kept { Kept customers.old customers.new }
     {
         let total = self.header.capability().thousandths();
         if !wide(customers.len(), weights, shares) {

@@ -59,7 +59,7 @@ impl<D> Intake<D> {
         figures: Figures,
     ) -> Result<(), Refusal>
         ensures done { Enters (room customers.old) (records customers.old) figures result (records customers.new) }
-        ensures kept { Kept key customers.old customers.new }
+        ensures kept { Kept customers.old customers.new }
     {
         if !figures.are_in_range() {
             return Err(Refusal::OutOfRange);

@@ -46,7 +46,7 @@ impl<D: Divider> Intake<D> {
         shares: &mut [u64],
     ) -> Result<OpenBook<D>, (Intake<D>, Refusal)>
         ensures done { Founds D.Divider.meaning self (records customers.old) weights.old shares.old result (records customers.new) weights.new shares.new }
-        ensures kept { Kept key customers.old customers.new }
+        ensures kept { Kept customers.old customers.new }
     {
         let total = self.header.founding_total().thousandths();
         if !wide(customers.len(), weights, shares) {

@@ -28,7 +28,7 @@ impl<D> OpenBook<D> {
         amount: Cents,
     ) -> Result<(), Refusal>
         ensures done { Posts self.old (room lines.old) (records lines.old) number posting amount.amount result self.new (records lines.new) }
-        ensures kept { Kept key lines.old lines.new }
+        ensures kept { Kept lines.old lines.new }
     {
         if !in_range(Letter::Expense, 2, u64::from(number)) {
             return Err(Refusal::OutOfRange);
@@ -105,7 +105,7 @@ impl<D> OpenBook<D> {
     /// cents (24).
     pub fn strike(&mut self, lines: &mut Register<'_, CostLine>, number: u32) -> Result<(), Refusal>
         ensures done { Strikes self.old (records lines.old) number result self.new (records lines.new) }
-        ensures kept { Kept key lines.old lines.new }
+        ensures kept { Kept lines.old lines.new }
     {
         let line = lines.get(number)?;
         if !self.holds(line) {

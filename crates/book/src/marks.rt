@@ -38,7 +38,7 @@ impl<D> OpenBook<D> {
         load: Load,
     ) -> Result<(), Refusal>
         ensures done { Grants self.old (records customers.old) number load.thousandths result self.new (records customers.new) }
-        ensures kept { Kept key customers.old customers.new }
+        ensures kept { Kept customers.old customers.new }
     {
         let customer = customers.get(number)?;
         let load = load.thousandths();
@@ -68,7 +68,7 @@ impl<D> OpenBook<D> {
         load: Load,
     ) -> Result<Parcel, Refusal>
         ensures done { Lifts (records customers.old) number load.thousandths result (records customers.new) }
-        ensures kept { Kept key customers.old customers.new }
+        ensures kept { Kept customers.old customers.new }
     {
         let customer = customers.get(number)?;
         let load = load.thousandths();
@@ -110,7 +110,7 @@ fn giver_of(customers: &Register<'_, Customer>, number: u32) -> Result<Customer,
 fn put_back(customers: &mut Register<'_, Customer>, giver: Customer) -> Result<(), Refusal>
     ensures answer { result ≡ (if nat_le (giver.mark + giver.transit) most_mark then Ok tt else Err Spoiled) }
     ensures after { records customers.new ≡ (if nat_le (giver.mark + giver.transit) most_mark then remarked (records customers.old) giver (giver.mark + giver.transit) 0 else records customers.old) }
-    ensures kept { Kept key customers.old customers.new }
+    ensures kept { Kept customers.old customers.new }
 {
     let mark = raised(giver.mark, u64::from(giver.transit))?;
     let _ = customers.replace(Customer {
@@ -137,7 +137,7 @@ impl<D> OpenBook<D> {
         receiver: u32,
     ) -> Result<(), Refusal>
         ensures done { Lands (records customers.old) parcel receiver result (records customers.new) }
-        ensures kept { Kept key customers.old customers.new }
+        ensures kept { Kept customers.old customers.new }
     {
         let giver = parcel.open();
         let from = giver_of(customers, giver)?;
@@ -167,7 +167,7 @@ impl<D> OpenBook<D> {
         parcel: Parcel,
     ) -> Result<(), Refusal>
         ensures done { Returns (records customers.old) parcel result (records customers.new) }
-        ensures kept { Kept key customers.old customers.new }
+        ensures kept { Kept customers.old customers.new }
     {
         let giver = giver_of(customers, parcel.open())?;
         put_back(customers, giver)

@@ -55,7 +55,7 @@ fn write_shares<F: Fn(Customer, u32) -> Customer>(
     requires each { length shares.now ≡ length (records customers.old) }
     requires small { (k : ℕ) → k < length shares.now → slice_index shares.now k < 2 ^ 32 }
     ensures done { Written (F.post write) shares.now (records customers.old) (records customers.new) }
-    ensures kept { Kept key customers.old customers.new }
+    ensures kept { Kept customers.old customers.new }
 {
     // By place, since a register lends its records to be read, and takes them back one by one.
     for (i, share) in shares.iter().enumerate() {
@@ -83,7 +83,7 @@ pub(crate) fn share_out<D: Divider, F: Fn(&Customer) -> u64, G: Fn(Customer, u32
     requires passes { (by : List ℕ) → AllZip (FnReturnsAt F.Fn weight) (records customers.old) by → Passes total by }
     requires small { total < 2 ^ 32 }
     ensures done { Weighed (FnReturnsAt F.Fn weight) (records customers.old) (λ by. (Written (G.post write) (D.Divider.meaning divider.now total by) (records customers.old) (records customers.new)) × (Sheets (D.Divider.meaning divider.now) total by true weights.old shares.old weights.new shares.new)) }
-    ensures kept { Kept key customers.old customers.new }
+    ensures kept { Kept customers.old customers.new }
 {
     let n = customers.len();
     divide_by(divider, total, customers.records(), weight, weights, shares);

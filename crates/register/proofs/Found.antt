@@ -1,15 +1,12 @@
 -- The places that the searches give, and what the definitions on lists say of them.
-use Rattle.std.proofs.Common.{◌≡◌, ℕ, ◌+◌, ◌<◌, ◌≤◌, true, false, cond, not, eqb, ltb, Option, Result, Ok, Err, is_ok, is_some, List, [], ◌∷◌, length, get_or, set, Some, None, sym, refl, ap, ◌∙◌, one-add, arith}
+use Rattle.std.proofs.Common.{◌≡◌, ℕ, ◌+◌, ◌<◌, true, false, cond, not, eqb, ltb, Result, Ok, Err, is_ok, is_some, List, [], ◌∷◌, length, get_or, set, Some, sym, refl, ap, ◌∙◌, one-add, arith}
 use Rattle.std.proofs.lemmas.List.Folds.{find_at}
 use Rattle.std.proofs.lemmas.List.Recursion.{same_from_clauses}
-use Rattle.std.specs.List.{find, slice_get, insert, remove, position}
-use Rattle.std.specs.Option.{ok_or}
-use Rattle.std.proofs.lemmas.Option.{slice_get_cases, slice_get_past, slice_get_read}
+use Rattle.std.specs.List.{find, slice_get, insert, remove}
+use Rattle.std.proofs.lemmas.Option.{slice_get_cases, slice_get_read}
 use Rattle.std.proofs.lemmas.Bool.Decides.{nat_tests}
-use Rattle.std.proofs.lemmas.Bool.{cond_both, ltb-true, ltb-false}
 use Rattle.register.specs.Register.{Placed}
 use Rattle.register.specs.declared.refusal.Refusal.{Refusal}
-use Rattle.register.specs.declared.refusal.Refusal.TheVariants.{Missing}
 use Rattle.register.specs.Records.{lookup, added, without, replaced, place_of, place_for}
 
 module _ {R : Type 0} (key : R → ℕ) where
@@ -21,16 +18,6 @@ module _ {R : Type 0} (key : R → ℕ) where
 
   pub lookup-place_of : (n i : ℕ) (x : R) (xs : List R) → i ≡ place_of key n xs → i < length xs → x ≡ get_or xs i x → lookup key n xs ≡ Some x
   lookup-place_of n i x xs e lt is = sym (nth_place_of n xs) ∙ ap (slice_get xs) (sym e) ∙ slice_get_read xs (length xs) i x refl lt is
-
-  pub missing_past : (n : ℕ) (xs : List R) → length xs ≤ place_of key n xs → lookup key n xs ≡ None
-  missing_past n xs le = sym (nth_place_of n xs) ∙ slice_get_past xs (place_of key n xs) le
-
-  -- the place of the first record of a number, where a search finds one
-  pub placed_position : (n : ℕ) (xs : List R) → Placed key n xs (ok_or (position (λ x. eqb (key x) n) xs) Missing)
-  placed_position n xs =
-      let i = place_of key n xs in
-      cond_both (ltb i (length xs)) (Some i) None (λ (o : Option ℕ). Placed key n xs (ok_or o Missing))
-      (λ b. (refl, ltb-true i (length xs) b)) (λ b. (missing_past n xs (ltb-false i (length xs) b), refl))
 
   -- a place is found exactly where a record is
   pub placed_ok : (n : ℕ) (xs : List R) (r : Result ℕ Refusal) → Placed key n xs r → is_some (lookup key n xs) ≡ is_ok r

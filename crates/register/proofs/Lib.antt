@@ -1,7 +1,9 @@
+pub mod Bisect
 pub mod Change
 pub mod Every
 pub mod Found
 pub mod Laid
 pub mod Lookups
 pub mod Order
+pub mod Rising
 pub mod Sums

@@ -1,7 +1,7 @@
 -- Rising order after a change, and what it adds to the laws of changes.
-use Rattle.std.proofs.Common.{◌≡◌, ℕ, zero, suc, ◌<◌, ◌≤◌, eqb, ltb, List, [], ◌∷◌, map, length, Some, None, sym, refl, subst, arith}
+use Rattle.std.proofs.Common.{◌≡◌, ℕ, zero, suc, ◌<◌, ◌≤◌, eqb, ltb, List, [], ◌∷◌, map, length, take, Some, None, sym, refl, subst, arith}
 use Rattle.std.specs.List.{AllByRecursion, slice_get}
-use Rattle.std.proofs.ByRecursion.{All-map, All-weaker}
+use Rattle.std.proofs.ByRecursion.{All-map, All-weaker, All-take}
 use Rattle.std.proofs.lemmas.Option.{slice_get_read}
 use Rattle.std.proofs.lemmas.Bool.{cond_both, ltb-true, ltb-false}
 use Rattle.std.proofs.lemmas.Bool.Decides.{nat_tests}
@@ -11,7 +11,7 @@ use Rattle.register.proofs.Lookups.{lookup_at_stands, numbers_replaced, numbers_
 
 module _ {R : Type 0} (key : R → ℕ) where
   -- what holds of every number, of the records themselves
-  all_unmap : (P : ℕ → Type 0) (xs : List R) → AllByRecursion P (map key xs) → AllByRecursion (λ x. P (key x)) xs
+  pub all_unmap : (P : ℕ → Type 0) (xs : List R) → AllByRecursion P (map key xs) → AllByRecursion (λ x. P (key x)) xs
   all_unmap P [] all = tt
   all_unmap P (x ∷ xs) all = (all.0, all_unmap P xs all.1)
 
@@ -54,7 +54,7 @@ module _ {R : Type 0} (key : R → ℕ) where
       grind (arith, nat_tests)
 
   -- the number at a place is above the first one
-  above_first : (i : ℕ) (y x : R) (ys : List R) → InOrder key (y ∷ ys) → slice_get ys i ≡ Some x → key y < key x
+  pub above_first : (i : ℕ) (y x : R) (ys : List R) → InOrder key (y ∷ ys) → slice_get ys i ≡ Some x → key y < key x
   above_first i y x ys o at = all_nth key (λ z. key y < key z) i x ys (all_unmap (λ m. key y < m) ys o.0) at
 
   -- a record that stands among records in order is the one found by its number
@@ -75,3 +75,10 @@ module _ {R : Type 0} (key : R → ℕ) where
       let there = lookup_at_stands key i (key row) x ys at in
       let lower = above_first i y x ys o (slice_get_read ys (length ys) i x refl there.0 there.1) in
       grind (arith, nat_tests)
+
+  pub ordered_take : (n : ℕ) (xs : List R) → InOrder key xs → InOrder key (take n xs)
+  ordered_take zero xs o = tt
+  ordered_take (suc n) [] o = tt
+  ordered_take (suc n) (x ∷ xs) o =
+      let above : AllByRecursion (λ y. key x < key y) (take n xs) = All-take (λ y. key x < key y) n xs (all_unmap (λ m. key x < m) xs o.0) in
+      (All-map (λ m. key x < m) key (take n xs) above, ordered_take n xs o.1)

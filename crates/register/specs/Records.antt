@@ -1,7 +1,8 @@
 -- Records in a list, each with a number, `key`. The list may be in any order,
 -- and a number may stand in it twice: every definition still has a meaning.
-use Rattle.std.specs.Prelude.{ℕ, zero, suc, ◌<◌, cond, not, List, [], ◌∷◌, map, is_some, Some, None, Option, ◌==◌, nat_lt, slice_set}
+use Rattle.std.specs.Prelude.{◌≡◌, ℕ, min, length, zero, suc, ◌<◌, ◌≤◌, Bool, true, cond, Ok, Err, Result, not, List, [], ◌∷◌, map, is_some, Some, None, Option, ◌==◌, nat_lt, slice_set}
 use Rattle.std.specs.List.{AllByRecursion, prefix_len}
+use Rattle.std.specs.Coded.{×_prop, Unit-prop, le_prop}
 
 -- The first record of a number.
 abbrev pub lookup : {R : Type 0} → (R → ℕ) → ℕ → List R → Option R
@@ -42,6 +43,19 @@ Rising (n ∷ ns) = AllByRecursion (λ m. n < m) ns × Rising ns
 abbrev pub InOrder : {R : Type 0} → (R → ℕ) → List R → Type 0
 InOrder key xs = Rising (map key xs)
 
+-- Whether a number rises above the last one, if there is one.
+abbrev pub rises : Option ℕ → ℕ → Bool
+rises None n = true
+rises (Some last) n = nat_lt last n
+
+-- The records from the first one on that stand in rising order.
+abbrev pub rising_after : {R : Type 0} → (R → ℕ) → Option ℕ → List R → List R
+rising_after key last [] = []
+rising_after key last (x ∷ xs) = cond (rises last (key x)) (x ∷ rising_after key (Some (key x)) xs) []
+
+abbrev pub rising_front : {R : Type 0} → (R → ℕ) → List R → List R
+rising_front key xs = rising_after key None xs
+
 -- How many records stand before the first one of a number: all, where none has it.
 abbrev pub place_of : {R : Type 0} → (R → ℕ) → ℕ → List R → ℕ
 place_of key n xs = prefix_len (λ x. not (key x == n)) xs
@@ -49,3 +63,24 @@ place_of key n xs = prefix_len (λ x. not (key x == n)) xs
 -- How many records stand before the first one of a higher number: all, where none has one.
 abbrev pub place_for : {R : Type 0} → (R → ℕ) → ℕ → List R → ℕ
 place_for key n xs = prefix_len (λ x. not (nat_lt n (key x))) xs
+
+-- How many places of a memory a register uses: the first 512, or all of a shorter one.
+abbrev pub usable : {R : Type 0} → List R → ℕ
+usable mem = min (length mem) 512
+
+-- The place of the record of a number, or the place where it would go.
+abbrev pub Located : {R : Type 0} → (R → ℕ) → ℕ → List R → Result ℕ ℕ → Type 0
+Located key n xs (Ok i) = (i ≡ place_of key n xs) × (i < length xs)
+Located key n xs (Err i) = (i ≡ place_for key n xs) × (i ≤ length xs) × (lookup key n xs ≡ None)
+
+-- A register can be in rising order in one way only.
+above-prop : (n : ℕ) (ns : List ℕ) → IsProp (AllByRecursion (λ m. n < m) ns)
+above-prop n [] = Unit-prop
+above-prop n (m ∷ ms) = ×_prop le_prop (above-prop n ms)
+
+rising-prop : (ns : List ℕ) → IsProp (Rising ns)
+rising-prop [] = Unit-prop
+rising-prop (n ∷ ns) = ×_prop (above-prop n ns) (rising-prop ns)
+
+pub in_order-prop : {R : Type 0} (key : R → ℕ) (xs : List R) → IsProp (InOrder key xs)
+in_order-prop key xs = rising-prop (map key xs)

@@ -2,28 +2,25 @@
 -- memory that it is lent. The records stand in the first places of the
 -- memory; what the other places hold is no part of the register.
 use Rattle.std.specs.Prelude.{◌≡◌, ℕ, ◌<◌, min, true, List, ◌++◌, length, take, drop, is_some, Some, None, Ok, Err, Option, Result}
-use Rattle.register.specs.Records.{lookup, place_of, InOrder}
+use Rattle.register.specs.Records.{lookup, place_of, usable}
+use Rattle.register.specs.declared.Keyed.{Ghosts}
 use Rattle.register.specs.declared.Register.{Register}
 use Rattle.register.specs.declared.refusal.Refusal.{Refusal}
 use Rattle.register.specs.declared.refusal.Refusal.TheVariants.{Full, Taken, Missing}
 
 -- What all places of the memory hold.
-abbrev pub memory : {R : Type 0} → Register R → List R
+abbrev pub memory : {R : Type 0} {k : Ghosts R} → Register R k → List R
 memory reg = reg.places.now
 
--- How many places of a memory a register uses: the first 512, or all of a shorter one.
-abbrev pub usable : {R : Type 0} → List R → ℕ
-usable mem = min (length mem) 512
-
-abbrev pub room : {R : Type 0} → Register R → ℕ
+abbrev pub room : {R : Type 0} {k : Ghosts R} → Register R k → ℕ
 room reg = usable (memory reg)
 
 -- How many records stand.
-abbrev pub count : {R : Type 0} → Register R → ℕ
+abbrev pub count : {R : Type 0} {k : Ghosts R} → Register R k → ℕ
 count reg = min reg.standing (room reg)
 
 -- The standing records, in their order.
-abbrev pub records : {R : Type 0} → Register R → List R
+abbrev pub records : {R : Type 0} {k : Ghosts R} → Register R k → List R
 records reg = take (count reg) (memory reg)
 
 -- The memory with records in its first places, and what it held in all others.
@@ -50,15 +47,13 @@ Admitted key places row xs (Err Missing) = ⊥
 
 -- A call that refuses leaves the register as it was: every place, and the count.
 -- Each call has this, `Kept`, its answer and its records in clauses of their own, since callers cite them one by one.
-abbrev pub Untouched : {R T : Type 0} → Result T Refusal → Register R → Register R → Type 0
+abbrev pub Untouched : {R T : Type 0} {k : Ghosts R} → Result T Refusal → Register R k → Register R k → Type 0
 Untouched (Ok _) before after = Unit {0}
 Untouched (Err _) before after = after ≡ before
 
 -- What every change of a register keeps: `rest`, the places past the records
--- that stand then; `size`, the number of places; `order`, rising order;
--- `lender`, whose memory it is.
-pub record Kept {R : Type 0} (key : R → ℕ) (before after : Register R) : Type 0 where
+-- that stand then; `size`, the number of places; `lender`, whose memory it is.
+pub record Kept {R : Type 0} {k : Ghosts R} (before after : Register R k) : Type 0 where
   pub rest : memory after ≡ laid (records after) (memory before)
   pub size : length (memory after) ≡ length (memory before)
-  pub order : InOrder key (records before) → InOrder key (records after)
   pub lender : after.places.ghost_name ≡ before.places.ghost_name

@@ -8,8 +8,7 @@
 #![tactic(auto)]
 
 ghost use Rattle.std.specs.Prelude.{◌≡◌, ℕ, min, [], length, take, is_ok, if◌then◌else◌, ◌==◌};
-ghost use Rattle.register.specs.Records.{lookup, added, without, replaced, lookup_at, replaced_at};
-ghost use Rattle.register.specs.Register.{memory, usable, room, records, Placed, Sought, Admitted, Untouched, Kept};
+ghost use Rattle.register.specs.Records.{lookup, added, without, replaced, lookup_at, replaced_at, usable, rising_front, InOrder, in_order-prop};
 
 mod refusal;
 mod slices;
@@ -34,15 +33,17 @@ pub trait Keyed: Copy {
 /// Records of one kind, in rising order of their numbers, no number twice.
 // A slice that is lent and a count, and no Vec: a register allocates nothing,
 // and any memory will do. No Model: the calls promise the memory and its lender
-// beside the records, so the view would be the fields again. Rising order is no
-// invariant, since `of` takes any records.
+// beside the records, so the view would be the fields again.
 #[derive(Drop)]
-pub struct Register<'a, R> {
+pub struct Register<'a, R: Keyed> {
     places: &'a mut [R],
     standing: usize,
+    ghost rising: { InOrder R.Keyed.key (take (min standing (usable places.now)) places.now) } by { in_order-prop R.Keyed.key (take (min standing (usable places.now)) places.now) },
 }
 
 impl<'a, R: Keyed> Register<'a, R> {
+    ghost use Rattle.register.specs.Register.{memory, room, records, Placed, Sought, Admitted, Untouched, Kept};
+
     /// A register in the memory `places`, in which no record stands yet.
     ///
     /// It leaves the memory as it was. Any memory will do, also an empty one.
@@ -58,14 +59,16 @@ impl<'a, R: Keyed> Register<'a, R> {
     }
 
     /// A register in the memory `places`, in whose first places `standing`
-    /// records stand already, or as many as it uses of them.
+    /// records stand already, or as many as it uses of them and are in rising order.
     ///
-    /// It leaves the memory as it was, and is in order where these records are.
+    /// It leaves the memory as it was.
     pub fn of(places: &'a mut [R], standing: usize) -> Register<'a, R>
-        ensures records { records result ≡ take (min standing (usable places.old)) places.old }
+        ensures records { records result ≡ rising_front R.Keyed.key (take (min standing (usable places.old)) places.old) }
         ensures memory { memory result ≡ places.old }
         ensures lender { result.places.ghost_name ≡ places.entry.ghost_name }
     {
+        let used = standing.min(PLACES).min(places.len());
+        let standing = slices::rising(&places[..used]);
         Register { places, standing }
     }
 
@@ -103,7 +106,7 @@ impl<'a, R: Keyed> Register<'a, R> {
     pub fn find(&self, number: u32) -> Result<usize, Refusal>
         ensures { Placed R.Keyed.key number (records self.now) result }
     {
-        slices::place_of(self.records(), number).ok_or(Refusal::Missing)
+        slices::place_of(self.records(), number).map_err(|_| Refusal::Missing)
     }
 
     /// The record of the number.
@@ -124,18 +127,15 @@ impl<'a, R: Keyed> Register<'a, R> {
         ensures answer { Admitted R.Keyed.key (room self.old) row (records self.old) result }
         ensures records { records self.new ≡ (if is_ok result then added R.Keyed.key row (records self.old) else records self.old) }
         ensures untouched { Untouched result self.old self.new }
-        ensures kept { Kept R.Keyed.key self.old self.new }
+        ensures kept { Kept self.old self.new }
     {
         if self.is_full() {
             return Err(Refusal::Full);
         }
-        let number = row.number();
-        // The records may be in any order, so the number is looked for among all of them first.
-        if self.find(number).is_ok() {
-            return Err(Refusal::Taken);
-        }
         let standing = self.len();
-        let at = slices::place_for(self.records(), number);
+        let Err(at) = slices::place_of(self.records(), row.number()) else {
+            return Err(Refusal::Taken);
+        };
         slices::insert_at(self.places, standing, at, row);
         self.standing = standing + 1;
         Ok(())
@@ -148,13 +148,12 @@ impl<'a, R: Keyed> Register<'a, R> {
         ensures answer { Sought (lookup R.Keyed.key number (records self.old)) result }
         ensures records { records self.new ≡ without R.Keyed.key number (records self.old) }
         ensures untouched { Untouched result self.old self.new }
-        ensures kept { Kept R.Keyed.key self.old self.new }
+        ensures kept { Kept self.old self.new }
     {
         let at = self.find(number)?;
         let standing = self.len();
-        let old = slices::remove_at(self.places, standing, at);
         self.standing = standing - 1;
-        Ok(old)
+        Ok(slices::remove_at(self.places, standing, at))
     }
 
     /// Puts a record in the place of the one of its number, and gives that one back.
@@ -164,10 +163,11 @@ impl<'a, R: Keyed> Register<'a, R> {
         ensures answer { Sought (lookup R.Keyed.key (R.Keyed.key row) (records self.old)) result }
         ensures records { records self.new ≡ replaced R.Keyed.key row (records self.old) }
         ensures untouched { Untouched result self.old self.new }
-        ensures kept { Kept R.Keyed.key self.old self.new }
+        ensures kept { Kept self.old self.new }
     {
         let at = self.find(row.number())?;
-        Ok(mem::replace(&mut self.places[at], row))
+        let places = &mut *self.places;
+        Ok(mem::replace(&mut places[at], row))
     }
 
     /// Puts a record in the place of the one at `at` in the order, and gives that one back.
@@ -179,11 +179,14 @@ impl<'a, R: Keyed> Register<'a, R> {
         ensures answer { Sought (lookup_at R.Keyed.key at (R.Keyed.key row) (records self.old)) result }
         ensures records { records self.new ≡ replaced_at R.Keyed.key at row (records self.old) }
         ensures untouched { Untouched result self.old self.new }
-        ensures kept { Kept R.Keyed.key self.old self.new }
+        ensures kept { Kept self.old self.new }
     {
         let number = row.number();
         match self.records().get(at) {
-            Some(old) if old.number() == number => Ok(mem::replace(&mut self.places[at], row)),
+            Some(old) if old.number() == number => {
+                let places = &mut *self.places;
+                Ok(mem::replace(&mut places[at], row))
+            }
             _ => Err(Refusal::Missing),
         }
     }

@@ -1,27 +1,32 @@
 //! Searches among records in a slice, and shifts of them.
-ghost use Rattle.std.specs.Prelude.{◌≡◌, position, ◌==◌, ◌<◌, ◌≤◌, length, take, slice_index_or};
+ghost use Rattle.std.specs.Prelude.{◌≡◌, ◌<◌, ◌≤◌, length, take, slice_index_or};
 ghost use Rattle.std.specs.List.{insert, remove};
-ghost use Rattle.register.specs.Records.{place_for};
+ghost use Rattle.register.specs.Records.{rising_front, InOrder, Located};
 ghost use Rattle.register.specs.Register.{laid};
 
 use super::Keyed;
 
-/// The place of the first record of the number.
-// From the front, since the records may be in any order.
-pub(crate) fn place_of<R: Keyed>(records: &[R], number: u32) -> Option<usize>
-    ensures { result ≡ position (λ x. R.Keyed.key x == number) records.now }
+/// The place of the record of the number, or the place where it would go.
+pub(crate) fn place_of<R: Keyed>(records: &[R], number: u32) -> Result<usize, usize>
+    requires { InOrder R.Keyed.key records.now }
+    ensures { Located R.Keyed.key number records.now result }
 {
-    records.iter().position(|row| row.number() == number)
+    records.binary_search_by_key(&number, |row| row.number())
 }
 
-/// How many records stand before the first one of a higher number; all, where none has one.
-pub(crate) fn place_for<R: Keyed>(records: &[R], number: u32) -> usize
-    ensures { result ≡ place_for R.Keyed.key number records.now }
+/// How many records from the first one on are in rising order.
+pub(crate) fn rising<R: Keyed>(records: &[R]) -> usize
+    ensures { result ≡ length (rising_front R.Keyed.key records.now) }
 {
-    records
-        .iter()
-        .take_while(|row| row.number() <= number)
-        .count()
+    let mut last = None;
+    for (count, row) in records.iter().enumerate() {
+        let number = row.number();
+        if last.is_some_and(|last| number <= last) {
+            return count;
+        }
+        last = Some(number);
+    }
+    records.len()
 }
 
 /// Puts `row` in at `at`. Of the first `standing` records, those from `at` on

@@ -32,7 +32,7 @@ pub fn found<D: Divider>(
     shares: &mut [u64],
 ) -> Result<OpenBook<D>, (Intake<D>, Refusal)>
     ensures done { Founds D.Divider.meaning intake (records customers.old) weights.old shares.old result (records customers.new) weights.new shares.new }
-    ensures kept { Kept key customers.old customers.new }
+    ensures kept { Kept customers.old customers.new }
     ensures runs { MatchResult result (λ b. Entered (records customers.old) → StaysSound D.Divider.meaning intake.header.founding_total intake.header.capability b (records customers.new)) (λ back. Entered (records customers.old) → back.1 ≢ Spoiled) }
     ensures closes { IfOk result (λ b. Entered (records customers.old) → StaysReconciled D.Divider.meaning b (records customers.new)) }
 {

@@ -11,7 +11,7 @@ use Rattle.book.proofs.sharing.write_shares.Given.{F-post}
 use Rattle.book.proofs.sharing.write_shares.Goals as goal
 
 pub loop-i-init : goal.loop-i-init
-loop-i-init g c = (written_none _ (records c.args.customers.now), kept_same key c.args.customers.now)
+loop-i-init g c = (written_none _ (records c.args.customers.now), kept_same c.args.customers.now)
 
 pub bounds-records-i : goal.bounds-records-i
 bounds-records-i g c =
@@ -35,5 +35,5 @@ loop-i-preserved g c =
     let keeps : key row ≡ key (get_or cs i nobody) = All-get_or (KeepsNumber (F-post g c.args.write)) cs i nobody among c.requires.keeps (get_or ss i 0) row (c.requires.small i here) gave' in
     let put : records c.replace_at.new.self ≡ set now i row = c.replace_at.ensures.records ∙ replaced_at-set key i row x now stands (get_or_default now i nobody x stands) (ap key ahead ∙ sym keeps) in (
       rw put (written_more _ ss cs now i row here among c.loop-i.invariant.0 gave'),
-      kept_then key c.args.customers.now c.loop-i.customers c.replace_at.new.self (ap length put ∙ length-set now i row) c.loop-i.invariant.1 c.replace_at.ensures.kept,
+      kept_then c.args.customers.now c.loop-i.customers c.replace_at.new.self (ap length put ∙ length-set now i row) c.loop-i.invariant.1 c.replace_at.ensures.kept,
     )

@@ -7,4 +7,4 @@ use Rattle.book.proofs.sharing.write_shares.Given as goal
 abbrev pub invariant-loop-i : goal.invariant-loop-i
 invariant-loop-i g l =
     Written (goal.F-post g l.write) (take l.i l.shares) (records l.initial.customers) (records l.customers)
-    × Kept key l.initial.customers l.customers
+    × Kept l.initial.customers l.customers
