@@ -1,5 +1,5 @@
 -- The rows of a listing.
-use Rattle.std.specs.Prelude.{◌≡◌, ℕ, ◌+◌, ◌*◌, cond, List, [], ◌∷◌, ◌++◌, length, get_or, drop, ℤ, pos, is_some, is_ok, decimal, sum_by, Result, nat_le, slice_index_or}
+use Rattle.std.specs.Prelude.{◌≡◌, ℕ, ◌+◌, ◌*◌, ◌≤◌, cond, List, [], ◌∷◌, ◌++◌, length, get_or, drop, ℤ, pos, is_some, is_ok, decimal, sum_by, Ok, Err, Result, nat_le, slice_index_or}
 use Rattle.std.specs.Fmt.{signed_decimal}
 use Rattle.register.specs.Records.{lookup, place_of}
 use Rattle.records.specs.declared.customer.Customer.{Customer}
@@ -59,6 +59,18 @@ sum_row costs credits cs =
     ∷ signed_decimal (cost costs credits Tier2)
     ∷ []
     )
+
+-- No row that is written has more bytes.
+abbrev pub longest : ℕ
+longest = 225
+
+-- A row that is written, or that wants nothing but room, is no longer.
+abbrev pub Short : List ℕ → Result ℕ Refusal → Type 0
+Short row (Ok n) = length row ≤ longest
+Short row (Err Missing) = Unit {0}
+Short row (Err ShortSheet) = Unit {0}
+Short row (Err NotAName) = Unit {0}
+Short row (Err NoRoom) = length row ≤ longest
 
 -- A row is written at the front of a buffer; a refusal leaves it as it was.
 pub record Lists (row : List ℕ) (answer_is : Result ℕ Refusal) (buffer : List ℕ) (r : Result ℕ Refusal) (buffer' : List ℕ) : Type 0 where

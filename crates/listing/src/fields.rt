@@ -12,10 +12,12 @@ use rows::Field;
 
 /// The charge in a pool of the customer at a place, of so many customers, with
 /// a minus before a negative one.
+#[tactic(auto, using(crate::proofs::Listed::figure_few))]
 pub(crate) fn charge<'a>(charges: &[i64], customers: usize, at: usize, pool: Pool) -> Field<'a>
     requires wide { 4 * customers ≤ length charges.now }
     requires stands { at < customers }
-    ensures { spelled result ≡ signed_decimal (charge_at charges.now customers at pool) }
+    ensures bytes { spelled result ≡ signed_decimal (charge_at charges.now customers at pool) }
+    ensures few { length (spelled result) ≤ 24 }
 {
     let cents = charges[pool.order() * customers + at];
     if cents < 0 {
@@ -27,8 +29,10 @@ pub(crate) fn charge<'a>(charges: &[i64], customers: usize, at: usize, pool: Poo
 
 /// The cost of a pool: its cost side less its credit side, with a minus before
 /// a negative one.
+#[tactic(auto, using(crate::proofs::Listed::figure_few))]
 pub(crate) fn cost<'a, D>(book: &ClosedBook<D>, pool: Pool) -> Field<'a>
-    ensures { spelled result ≡ signed_decimal (pool_cost book.now.costs book.now.credits pool) }
+    ensures bytes { spelled result ≡ signed_decimal (pool_cost book.now.costs book.now.credits pool) }
+    ensures few { length (spelled result) ≤ 24 }
 {
     let (costs, credits) = book.sides(pool);
     if costs < credits {

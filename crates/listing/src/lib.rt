@@ -6,4 +6,4 @@ mod refusal;
 mod rows_of;
 
 pub use refusal::Refusal;
-pub use rows_of::{customer_row, sum_row};
+pub use rows_of::{ROW, customer_row, sum_row};

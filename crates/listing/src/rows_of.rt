@@ -1,7 +1,7 @@
 //! The rows of a listing.
 ghost use Rattle.std.specs.Prelude.{◌≡◌};
 ghost use Rattle.register.specs.Register.{records};
-ghost use Rattle.listing.specs.Listing.{ListsCustomer, ListsSums};
+ghost use Rattle.listing.specs.Listing.{customer_row, sum_row, Short, ListsCustomer, ListsSums};
 
 use crate::fields::{charge, cost, sums};
 use crate::refusal::Refusal;
@@ -10,13 +10,16 @@ use records::{Customer, Pool};
 use register::Register;
 use rows::Field;
 
+/// The most bytes of a row.
+pub const ROW: usize = 225;
+
 /// Writes the row of a customer at the front of a buffer, and answers its
 /// length: number, name, mark, RHWM, Above-RHWM load, and the charges in C, N,
 /// S and T, with a minus before a negative one, and the end byte.
 ///
 /// Asks whether the customer stands (25), whether the charges sheet has four
 /// places for each customer (22), whether the name is lawful (7), and whether
-/// the buffer is long enough (9).
+/// the buffer is long enough (9), which one of `ROW` bytes is.
 pub fn customer_row<D>(
     _book: &ClosedBook<D>,
     customers: &Register<'_, Customer>,
@@ -25,7 +28,8 @@ pub fn customer_row<D>(
     name: &[u8],
     buffer: &mut [u8],
 ) -> Result<usize, Refusal>
-    ensures { ListsCustomer (records customers.now) charges.now number name.now buffer.old result buffer.new }
+    ensures lists { ListsCustomer (records customers.now) charges.now number name.now buffer.old result buffer.new }
+    ensures short { Short (customer_row (records customers.now) charges.now number name.now) result }
 {
     let at = customers.find(number).map_err(|_| Refusal::Missing)?;
     let records = customers.records();
@@ -55,13 +59,14 @@ pub fn customer_row<D>(
 /// 0, SUM, the sums of marks, RHWMs and Above-RHWM loads, the costs of the
 /// pools C, N, S and T, and the end byte.
 ///
-/// Asks whether the buffer is long enough (9).
+/// Asks whether the buffer is long enough (9), which one of `ROW` bytes is.
 pub fn sum_row<D>(
     book: &ClosedBook<D>,
     customers: &Register<'_, Customer>,
     buffer: &mut [u8],
 ) -> Result<usize, Refusal>
-    ensures { ListsSums book.now.costs book.now.credits (records customers.now) buffer.old result buffer.new }
+    ensures lists { ListsSums book.now.costs book.now.credits (records customers.now) buffer.old result buffer.new }
+    ensures short { Short (sum_row book.now.costs book.now.credits (records customers.now)) result }
 {
     let (marks, rhwms, above) = sums(customers.records());
     let fields = [

@@ -159,8 +159,8 @@ module _ {D : Type 0} where
       Answered (λ a. Acts places b cs ls (transfer giver receiver load) a b' cs' ls') tt r
 
   -- The outcome of lines that act: where they leave the book, or the fault.
-  abbrev pub outcome : Result (Unit {0}) Fault → OpenBook D → List Customer → List CostLine → Result (Open D) Fault
-  outcome (Ok u) b cs ls = Ok (record { book = b; customers = cs; lines = ls })
+  abbrev pub outcome : Result ℕ Fault → OpenBook D → List Customer → List CostLine → Result (Open D) Fault
+  outcome (Ok n) b cs ls = Ok (record { book = b; customers = cs; lines = ls })
   outcome (Err f) b cs ls = Err f
 
 module _ {D : Type 0} (m : D → Meaning) where

@@ -1,5 +1,5 @@
 //! Lines after the customers' act on the open book.
-ghost use Rattle.std.specs.Prelude.{◌≡◌, true};
+ghost use Rattle.std.specs.Prelude.{◌≡◌, ◌+◌, true, length, IfOk};
 ghost use Rattle.units.specs.Ranges.{in_range};
 ghost use Rattle.units.specs.declared.ranges.Letter.TheVariants.{Expense, Grant};
 ghost use Rattle.register.specs.Register.{room, records};
@@ -40,7 +40,8 @@ fn grant<D>(
     load: u64,
 ) -> Result<(), Cause>
     requires { in_range Grant 3 load ≡ true }
-    ensures { Answered (λ a. Grants book.old (records customers.old) number load a book.new (records customers.new)) tt result }
+    ensures done { Answered (λ a. Grants book.old (records customers.old) number load a book.new (records customers.new)) tt result }
+    ensures lender { customers.new.places.ghost_name ≡ customers.old.places.ghost_name }
 {
     book.grant(customers, number, Load::new(load)?)?;
     Ok(())
@@ -55,7 +56,8 @@ fn transfer<D>(
     load: u64,
 ) -> Result<(), Cause>
     requires { in_range Grant 3 load ≡ true }
-    ensures { Answered (λ a. Moves (records customers.old) giver receiver load a (records customers.new)) tt result }
+    ensures done { Answered (λ a. Moves (records customers.old) giver receiver load a (records customers.new)) tt result }
+    ensures lender { customers.new.places.ghost_name ≡ customers.old.places.ghost_name }
 {
     let parcel = book.lift(customers, giver, Load::new(load)?)?;
     book.land(customers, parcel, receiver)?;
@@ -73,6 +75,7 @@ fn act<D>(
 ) -> Result<(), Cause>
     ensures done { LineActs (room costs.old) book.old (records customers.old) (records costs.old) (line_of line.now) result book.new (records customers.new) (records costs.new) }
     ensures places { room costs.new ≡ room costs.old }
+    ensures lender { customers.new.places.ghost_name ≡ customers.old.places.ghost_name }
 {
     match lines::read(line)? {
         Line::Header { .. } => Err(Cause::Page(Refusal::HeaderPlace)),
@@ -91,17 +94,22 @@ fn act<D>(
     }
 }
 
-/// Does what lines say, up to the last or to a fault.
+/// Does what lines say, up to the last or to a fault, and answers the number of
+/// the last, or of the line before where there is none.
 pub(crate) fn act_all<D>(
     book: &mut OpenBook<D>,
     lines: Lines<'_>,
     customers: &mut Register<'_, Customer>,
     costs: &mut Register<'_, CostLine>,
-) -> Result<(), Fault>
-    ensures { Plays (room costs.old) book.old (records customers.old) (records costs.old) lines.entry.number (readings lines.entry) (outcome result book.new (records customers.new) (records costs.new)) }
+) -> Result<usize, Fault>
+    ensures done { Plays (room costs.old) book.old (records customers.old) (records costs.old) lines.entry.number (readings lines.entry) (outcome result book.new (records customers.new) (records costs.new)) }
+    ensures last { IfOk result (λ last. last + 1 ≡ lines.entry.number + length (readings lines.entry)) }
+    ensures lender { customers.new.places.ghost_name ≡ customers.old.places.ghost_name }
 {
+    let mut last = lines.number - 1;
     for (number, line) in lines {
         act(book, line, customers, costs).map_err(|cause| cause.at(number))?;
+        last = number;
     }
-    Ok(())
+    Ok(last)
 }

@@ -1,6 +1,7 @@
 //! What is wrong with a page, and where.
-ghost use Rattle.std.specs.Prelude.{◌≡◌};
-ghost use Rattle.page.specs.Answers.{number, field, layer, Tells};
+ghost use Rattle.std.specs.Prelude.{◌≡◌, ◌≤◌, length};
+ghost use Rattle.listing.specs.Listing.{Short};
+ghost use Rattle.page.specs.Answers.{number, field, layer, fault_row, Tells};
 ghost use Rattle.page.specs.declared.fault.Cause.TheVariants.{Page, Line, Book};
 ghost use Rattle.book.specs.declared.refusal.Refusal.TheVariants.{OutOfRange};
 ghost use Rattle.page.specs.Pages.{at_line};
@@ -94,7 +95,8 @@ impl Cause {
 
     // The name of its layer.
     fn layer(self) -> &'static [u8]
-        ensures { result.now ≡ layer self }
+        ensures is { result.now ≡ layer self }
+        ensures few { length (layer self) ≤ 24 }
     {
         match self {
             Cause::Page(_) => b"page",
@@ -115,9 +117,11 @@ pub struct Fault {
 /// Writes the row of a fault at the front of a buffer, and answers its
 /// length: F, the layer, the line, the field, the number, and the end byte.
 ///
-/// Asks whether the buffer is long enough (9).
+/// Asks whether the buffer is long enough (9), which one of `listing::ROW`
+/// bytes is.
 pub fn fault_row(fault: Fault, buffer: &mut [u8]) -> Result<usize, listing::Refusal>
-    ensures { Tells fault buffer.old result buffer.new }
+    ensures tells { Tells fault buffer.old result buffer.new }
+    ensures short { Short (fault_row fault) result }
 {
     let fields = [
         Field::Text(b"F"),

@@ -1,5 +1,5 @@
 //! The lines of a page that are still to be read.
-ghost use Rattle.std.specs.Prelude.{◌≡◌, ◌+◌, ◌^◌, ◌≤◌, [], length, MatchOption};
+ghost use Rattle.std.specs.Prelude.{◌≡◌, ◌+◌, ◌-◌, ◌^◌, ◌≤◌, [], length, is_some, MatchOption, if◌then◌else◌};
 ghost use Rattle.std.specs.Iterator.{at_most};
 ghost use Rattle.rows.specs.Rows.{parts_after};
 ghost use Rattle.page.specs.Remaining.{FirstOf};
@@ -7,11 +7,24 @@ ghost use Rattle.page.specs.Remaining.{FirstOf};
 /// Lines of a page, each with its number: those from one on.
 #[derive(Clone, Copy)]
 pub(crate) struct Lines<'a> {
-    /// The number of the first.
+    /// The number of the first, from 1 on.
     pub(crate) number: usize,
     /// The first and what stands after it, if one is left.
     pub(crate) rest: Option<&'a [u8]>,
+    ghost from_one: { 1 ≤ number },
     ghost counted: { number + length (parts_after 10 rest) ≤ 2 ^ 32 },
+}
+
+impl Lines<'_> {
+    /// The number of the first, or of the line before where none is left.
+    pub(crate) fn here(&self) -> usize
+        ensures { result ≡ (if is_some self.now.rest then self.now.number else self.now.number - 1) }
+    {
+        match self.rest {
+            Some(_) => self.number,
+            None => self.number - 1,
+        }
+    }
 }
 
 impl<'a> Iterator for Lines<'a> {

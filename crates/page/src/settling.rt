@@ -13,7 +13,8 @@ pub(crate) fn found<D: Divider>(
     intake: Intake<D>,
     customers: &mut Register<'_, Customer>,
 ) -> Result<OpenBook<D>, (Intake<D>, Refusal)>
-    ensures { FoundsOn D.Divider.meaning intake (records customers.old) result (records customers.new) }
+    ensures done { FoundsOn D.Divider.meaning intake (records customers.old) result (records customers.new) }
+    ensures lender { customers.new.places.ghost_name ≡ customers.old.places.ghost_name }
 {
     intake.found(customers, &mut [0; 512], &mut [0; 512])
 }
@@ -23,7 +24,8 @@ pub(crate) fn close<D: Divider>(
     book: OpenBook<D>,
     customers: &mut Register<'_, Customer>,
 ) -> Result<ClosedBook<D>, (OpenBook<D>, Refusal)>
-    ensures { ClosesOn D.Divider.meaning book (records customers.old) result (records customers.new) }
+    ensures done { ClosesOn D.Divider.meaning book (records customers.old) result (records customers.new) }
+    ensures lender { customers.new.places.ghost_name ≡ customers.old.places.ghost_name }
 {
     book.close(customers, &mut [0; 512], &mut [0; 512])
 }
@@ -60,7 +62,8 @@ pub(crate) fn settle<D: Divider + Drop>(
     customers: &mut Register<'_, Customer>,
     charges: &mut [i64],
 ) -> Result<ClosedBook<D>, Refusal>
-    ensures { Settles D.Divider.meaning book (records customers.old) charges.old result (records customers.new) charges.new }
+    ensures done { Settles D.Divider.meaning book (records customers.old) charges.old result (records customers.new) charges.new }
+    ensures lender { customers.new.places.ghost_name ≡ customers.old.places.ghost_name }
 {
     let closed = close(book, customers).map_err(|(_, refusal)| refusal)?;
     bill_all(&closed, customers, charges)?;

@@ -1,5 +1,5 @@
 //! A whole page, from its first line to the bills.
-ghost use Rattle.std.specs.Prelude.{◌≡◌, ◌+◌, ◌^◌, ◌≤◌, map, length};
+ghost use Rattle.std.specs.Prelude.{◌≡◌, ◌≤◌, map, length, replicate, pos};
 ghost use Rattle.register.specs.Register.{room, records};
 ghost use Rattle.rows.specs.Rows.{parts_after};
 ghost use Rattle.lines.specs.Lines.{line_of};
@@ -31,19 +31,22 @@ fn body(page: &[u8]) -> Result<&[u8], Refusal>
 fn lead<D: Divider + Drop>(
     intake: Intake<D>,
     rest: Option<&[u8]>,
-    last: usize,
     customers: &mut Register<'_, Customer>,
     charges: &mut [i64],
 ) -> Result<ClosedBook<D>, Fault>
-    requires { (last ≡ length (parts_after 10 rest) + 1) × (last ≤ 2 ^ 31) }
-    ensures { Leads D.Divider.meaning (room customers.old) 512 intake (records customers.old) charges.old (map line_of (parts_after 10 rest.entry)) result (records customers.new) charges.new }
+    requires { length (parts_after 10 rest) ≤ 65536 }
+    ensures done { Leads D.Divider.meaning (room customers.old) 512 intake (records customers.old) charges.old (map line_of (parts_after 10 rest.entry)) result (records customers.new) charges.new }
+    ensures lender { customers.new.places.ghost_name ≡ customers.old.places.ghost_name }
 {
     let lines = enter_all(&intake, Lines { number: 2, rest }, customers)?;
-    let line = lines.number.min(last);
+    let line = lines.here();
     let mut book = found(intake, customers).map_err(|(_, refusal)| Cause::Book(refusal).at(line))?;
-    let mut memory = [CostLine::BLANK; 512];
-    let mut costs = Register::new(&mut memory);
-    act_all(&mut book, lines, customers, &mut costs)?;
+    let last = act_all(
+        &mut book,
+        lines,
+        customers,
+        &mut Register::new(&mut [CostLine::BLANK; 512]),
+    )?;
     settle(book, customers, charges).map_err(|refusal| Cause::Book(refusal).at(last))
 }
 
@@ -56,6 +59,34 @@ pub struct Billed<D> {
     pub customers: [Customer; 512],
     pub standing: usize,
     pub charges: [i64; 2048],
+}
+
+// Takes a page to its closed and billed book, in memory that it is lent.
+//
+// Each call says by `lender` that the register stays in that memory, so the
+// records stand there at the end.
+fn bill_in<D: Divider + Drop>(
+    divider: D,
+    page: &[u8],
+    memory: &mut [Customer; 512],
+    charges: &mut [i64; 2048],
+) -> Result<Billed<D>, Fault>
+    requires { charges.old ≡ replicate 2048 (pos 0) }
+    ensures { ComesTo D.Divider.meaning divider page.now (closed_as result) }
+{
+    let body = body(page).map_err(|refusal| Cause::from(refusal).at(0))?;
+    let (first, rest) = rows::split(body, b'\n');
+    let header = header_of(first).map_err(|cause| cause.at(1))?;
+    let intake = Intake::new(divider, header);
+    let mut customers = Register::new(memory);
+    let book = lead(intake, rest, &mut customers, charges)?;
+    let standing = customers.len();
+    Ok(Billed {
+        book,
+        customers: *memory,
+        standing,
+        charges: *charges,
+    })
 }
 
 /// Takes a page to its closed and billed book.
@@ -74,24 +105,7 @@ pub fn bill_page<D: Divider + Drop>(divider: D, page: &[u8]) -> Result<Billed<D>
     ensures comes { ComesTo D.Divider.meaning divider page.now (closed_as result) }
     ensures sums { All_adds_up page.now (closed_as result) }
 {
-    let body = body(page).map_err(|refusal| Cause::from(refusal).at(0))?;
-    let (first, rest) = rows::split(body, b'\n');
-    let header = header_of(first).map_err(|cause| cause.at(1))?;
-    let last = rows::separators(body, b'\n') + 1;
-    let intake = Intake::new(divider, header);
-    // Fixed memory and no Vec: a page is billed without a heap.
-    let mut memory = [Customer::BLANK; 512];
-    let mut customers = Register::new(&mut memory);
-    let mut charges = [0; 2048];
-    let book = lead(intake, rest, last, &mut customers, &mut charges)?;
-    let records = customers.records();
-    let standing = records.len();
-    let mut listed = [Customer::BLANK; 512];
-    listed[..standing].copy_from_slice(records);
-    Ok(Billed {
-        book,
-        customers: listed,
-        standing,
-        charges,
-    })
+    // Fixed memory and no Vec: a page is billed without a heap. It is lent as it
+    // is made, since memory that a `let` binds is cleared twice.
+    bill_in(divider, page, &mut [Customer::BLANK; 512], &mut [0; 2048])
 }

@@ -2,11 +2,11 @@
 //! standard output, and a sentence for people on standard error.
 #![tactic(auto)]
 
-mod listing_of;
 mod reading;
 mod sentence;
 
 use divider::Divider;
+use printing::{ROOM, print_page};
 use sentence::Sentence;
 use std::io::Write;
 use std::process::ExitCode;
@@ -28,9 +28,30 @@ fn asks_help(rt: &HostRuntime) -> io::Result<bool> {
     Ok(first.is_some_and(|word| word.as_str() == "--help"))
 }
 
-// Prints all bytes.
-fn print_bytes(rt: &HostRuntime, bytes: &[u8]) -> io::Result<()> {
-    rt.stdout().write_all(bytes)
+// Answers the page on standard input, in memory that it is lent.
+fn answer_in<D: Divider + Drop>(
+    rt: &HostRuntime,
+    divider: D,
+    name: &str,
+    memory: &mut [u8],
+    buffer: &mut [u8; ROOM],
+) -> io::Result<ExitCode> {
+    let length = reading::read_page(rt, memory)?;
+    let page = &memory[..length];
+    let printed = print_page(divider, page, buffer);
+    rt.stdout().write_all(&buffer[..printed.length])?;
+    let Some(fault) = printed.fault else {
+        return Ok(ExitCode::SUCCESS);
+    };
+    eprintln!(rt; "{name}: {}", Sentence { page, fault })?;
+    Ok(ExitCode::FAILURE)
+}
+
+// Answers the page on standard input.
+fn answer<D: Divider + Drop>(rt: &HostRuntime, divider: D, name: &str) -> io::Result<ExitCode> {
+    // Fixed memory and no Vec: what a page takes at most is known, and can't run
+    // out. One byte more than a page may have shows that one is too long.
+    answer_in(rt, divider, name, &mut [0; 65_537], &mut [0; ROOM])
 }
 
 /// Runs the program of a divider.
@@ -39,23 +60,5 @@ pub fn run<D: Divider + Drop>(rt: &HostRuntime, divider: D, name: &str) -> io::R
         eprintln!(rt; "usage: {name} < PAGE\n\n{name} {USAGE}")?;
         return Ok(ExitCode::SUCCESS);
     }
-    // Fixed memory and no Vec: what a page takes at most is known, and can't run out.
-    let mut memory = [0; 65_537];
-    let length = reading::read_page(rt, &mut memory)?;
-    let page = &memory[..length];
-    let mut output = [0; 65_536];
-    match page::bill_page(divider, page) {
-        Ok(mut billed) => {
-            let count = listing_of::write_listing(&mut billed, page, &mut output);
-            print_bytes(rt, &output[..count])?;
-            Ok(ExitCode::SUCCESS)
-        }
-        Err(fault) => {
-            if let Ok(count) = page::fault_row(fault, &mut output) {
-                print_bytes(rt, &output[..count])?;
-            }
-            eprintln!(rt; "{name}: {}", Sentence { page, fault })?;
-            Ok(ExitCode::FAILURE)
-        }
-    }
+    answer(rt, divider, name)
 }

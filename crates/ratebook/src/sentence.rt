@@ -72,6 +72,17 @@ fn book_words(refusal: book::Refusal) -> &'static str {
     }
 }
 
+// The most bytes of a field that a sentence quotes.
+const QUOTED: usize = 40;
+
+// A field as it is quoted: not where it is empty or long, or has bytes that
+// would not show or would act on a terminal.
+fn quoted(bytes: &[u8]) -> Option<&str> {
+    let plain = (1..=QUOTED).contains(&bytes.len())
+        && bytes.iter().all(|byte| matches!(byte, b' '..=b'~'));
+    if plain { from_utf8(bytes).ok() } else { None }
+}
+
 /// What is wrong with a page, and where, in a sentence.
 #[derive(Clone, Copy)]
 pub(crate) struct Sentence<'a> {
@@ -85,14 +96,15 @@ impl fmt::Display for Sentence<'_> {
         match self.fault.cause {
             Cause::Page(refusal) if line == 0 => write!(f, "{}", page_words(refusal)),
             Cause::Page(refusal) => write!(f, "line {line}, field 1: {}", page_words(refusal)),
+            Cause::Line(lines::Fault { field: 0, refusal }) => {
+                write!(f, "line {line}: {}", line_words(refusal, b""))
+            }
             Cause::Line(lines::Fault { field, refusal }) => {
                 let bytes = part(part(self.page, b'\n', line), b',', field);
                 let words = line_words(refusal, bytes);
-                match from_utf8(bytes) {
-                    Ok(text) if field > 0 => {
-                        write!(f, "line {line}, field {field}: {text}: {words}")
-                    }
-                    _ => write!(f, "line {line}: {words}"),
+                match quoted(bytes) {
+                    Some(text) => write!(f, "line {line}, field {field}: {text}: {words}"),
+                    None => write!(f, "line {line}, field {field}: {words}"),
                 }
             }
             Cause::Book(refusal) => write!(f, "line {line}: {}", book_words(refusal)),

@@ -7,9 +7,11 @@ use Rattle.page.proofs.taking.enter_all.Given as goal
 
 -- What the lines left come to, all lines come to.
 abbrev pub invariant-loop-number : goal.invariant-loop-number
-invariant-loop-number g l =
-    (l.lines ≡ l.after)
-    × ((o : Result Taken Fault) → Takes (room l.customers) (records l.customers) l.after.number (readings l.after) o → Takes (room l.initial.customers) (records l.initial.customers) l.initial.lines.number (readings l.initial.lines) o)
+invariant-loop-number g l = record {
+  same : l.lines ≡ l.after;
+  takes : (o : Result Taken Fault) → Takes (room l.customers) (records l.customers) l.after.number (readings l.after) o → Takes (room l.initial.customers) (records l.initial.customers) l.initial.lines.number (readings l.initial.lines) o;
+  lender : l.customers.places.ghost_name ≡ l.initial.customers.places.ghost_name;
+}
 
 abbrev pub decreases-loop-number : goal.decreases-loop-number
 decreases-loop-number g l = length (parts_after 10 l.after.rest)
