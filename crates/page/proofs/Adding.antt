@@ -20,7 +20,7 @@ use Rattle.page.specs.declared.fault.Cause.{Cause}
 use Rattle.page.specs.declared.fault.Fault.{Fault}
 use Rattle.page.specs.Pages as page
 use Rattle.page.specs.Pages.{Reading, Taken, Open, Closed, Heads, Takes, Acts, Plays, FoundsOn, Settles, ComesTo}
-use Rattle.page.specs.Sums.{founding_total, capability, grant_in, AddsUp, All_adds_up}
+use Rattle.page.specs.Sums.{founding_total, capability, grant_in, AddsUp, PageAddsUp}
 
 -- customers that a page takes in came by accepted enters
 takes_entered : {cs : List Customer} {n : ℕ} {rs : List Reading} {t : Taken} → Takes 512 cs n rs (Ok t) → Entered cs → Entered t.customers
@@ -116,7 +116,7 @@ heads_header (Ok (cost number p cents)) h rs is = never is
 heads_header (Ok (grant number load)) h rs is = never is
 heads_header (Ok (transfer giver receiver load)) h rs is = never is
 
-pub page_adds_up : {D : Type 0} (m : D → Meaning) → ((d : D) → LawfulMeaning (m d)) → (d : D) (bytes : List ℕ) (r : Result (Closed D) Fault) → ComesTo m d bytes r → All_adds_up bytes r
+pub page_adds_up : {D : Type 0} (m : D → Meaning) → ((d : D) → LawfulMeaning (m d)) → (d : D) (bytes : List ℕ) (r : Result (Closed D) Fault) → ComesTo m d bytes r → PageAddsUp bytes r
 page_adds_up m fair d bytes (Err f) c = tt
 page_adds_up m fair d bytes (Ok x) (page.billed_page {first = first} {rest = rest} {h = h} le ended lines heads (page.ends {t = t} taken founds plays settles)) =
     let rs = map line_of rest in

@@ -1,4 +1,4 @@
--- What adds up in the listing of every page.
+-- What adds up in the book of every page that is billed.
 use Rattle.std.specs.Prelude.{◌≡◌, ℕ, ◌+◌, List, [], ◌∷◌, map, length, Ok, Err, sum_by, Result}
 use Rattle.records.specs.declared.pool.Pool.{Pool}
 use Rattle.book.specs.Sides.{cost}
@@ -43,6 +43,6 @@ pub record AddsUp {D : Type 0} (rs : List Reading) (c : Closed D) : Type 0 where
   pub rhwms : sum_by (λ x. x.rhwm) c.customers ≡ capability rs
   pub charges : (p : Pool) → sumℤ (charges_in p (length c.customers) c.charges) ≡ cost c.book.costs c.book.credits p
 
-abbrev pub All_adds_up : {D : Type 0} → List ℕ → Result (Closed D) Fault → Type 0
-All_adds_up page (Ok c) = AddsUp (map line_of (page_lines page)) c
-All_adds_up page (Err f) = Unit {0}
+abbrev pub PageAddsUp : {D : Type 0} → List ℕ → Result (Closed D) Fault → Type 0
+PageAddsUp page (Ok c) = AddsUp (map line_of (page_lines page)) c
+PageAddsUp page (Err f) = Unit {0}

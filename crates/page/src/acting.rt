@@ -40,8 +40,7 @@ fn grant<D>(
     load: u64,
 ) -> Result<(), Cause>
     requires { in_range Grant 3 load ≡ true }
-    ensures done { Answered (λ a. Grants book.old (records customers.old) number load a book.new (records customers.new)) tt result }
-    ensures lender { customers.new.places.ghost_name ≡ customers.old.places.ghost_name }
+    ensures { Answered (λ a. Grants book.old (records customers.old) number load a book.new (records customers.new)) tt result }
 {
     book.grant(customers, number, Load::new(load)?)?;
     Ok(())
@@ -56,8 +55,7 @@ fn transfer<D>(
     load: u64,
 ) -> Result<(), Cause>
     requires { in_range Grant 3 load ≡ true }
-    ensures done { Answered (λ a. Moves (records customers.old) giver receiver load a (records customers.new)) tt result }
-    ensures lender { customers.new.places.ghost_name ≡ customers.old.places.ghost_name }
+    ensures { Answered (λ a. Moves (records customers.old) giver receiver load a (records customers.new)) tt result }
 {
     let parcel = book.lift(customers, giver, Load::new(load)?)?;
     book.land(customers, parcel, receiver)?;
@@ -75,7 +73,6 @@ fn act<D>(
 ) -> Result<(), Cause>
     ensures done { LineActs (room costs.old) book.old (records customers.old) (records costs.old) (line_of line.now) result book.new (records customers.new) (records costs.new) }
     ensures places { room costs.new ≡ room costs.old }
-    ensures lender { customers.new.places.ghost_name ≡ customers.old.places.ghost_name }
 {
     match lines::read(line)? {
         Line::Header { .. } => Err(Cause::Page(Refusal::HeaderPlace)),
@@ -104,7 +101,6 @@ pub(crate) fn act_all<D>(
 ) -> Result<usize, Fault>
     ensures done { Plays (room costs.old) book.old (records customers.old) (records costs.old) lines.entry.number (readings lines.entry) (outcome result book.new (records customers.new) (records costs.new)) }
     ensures last { IfOk result (λ last. last + 1 ≡ lines.entry.number + length (readings lines.entry)) }
-    ensures lender { customers.new.places.ghost_name ≡ customers.old.places.ghost_name }
 {
     let mut last = lines.number - 1;
     for (number, line) in lines {

@@ -13,10 +13,9 @@ pub(crate) fn found<D: Divider>(
     intake: Intake<D>,
     customers: &mut Register<'_, Customer>,
 ) -> Result<OpenBook<D>, (Intake<D>, Refusal)>
-    ensures done { FoundsOn D.Divider.meaning intake (records customers.old) result (records customers.new) }
-    ensures lender { customers.new.places.ghost_name ≡ customers.old.places.ghost_name }
+    ensures { FoundsOn D.Divider.meaning intake (records customers.old) result (records customers.new) }
 {
-    intake.found(customers, &mut [0; 512], &mut [0; 512])
+    runs::found(intake, customers, &mut [0; 512], &mut [0; 512])
 }
 
 /// Closes a book.
@@ -24,8 +23,7 @@ pub(crate) fn close<D: Divider>(
     book: OpenBook<D>,
     customers: &mut Register<'_, Customer>,
 ) -> Result<ClosedBook<D>, (OpenBook<D>, Refusal)>
-    ensures done { ClosesOn D.Divider.meaning book (records customers.old) result (records customers.new) }
-    ensures lender { customers.new.places.ghost_name ≡ customers.old.places.ghost_name }
+    ensures { ClosesOn D.Divider.meaning book (records customers.old) result (records customers.new) }
 {
     book.close(customers, &mut [0; 512], &mut [0; 512])
 }
@@ -62,8 +60,7 @@ pub(crate) fn settle<D: Divider + Drop>(
     customers: &mut Register<'_, Customer>,
     charges: &mut [i64],
 ) -> Result<ClosedBook<D>, Refusal>
-    ensures done { Settles D.Divider.meaning book (records customers.old) charges.old result (records customers.new) charges.new }
-    ensures lender { customers.new.places.ghost_name ≡ customers.old.places.ghost_name }
+    ensures { Settles D.Divider.meaning book (records customers.old) charges.old result (records customers.new) charges.new }
 {
     let closed = close(book, customers).map_err(|(_, refusal)| refusal)?;
     bill_all(&closed, customers, charges)?;

@@ -33,7 +33,6 @@ fn enter_line<D>(
 ) -> Result<bool, Cause>
     ensures done { LineEnters (room customers.old) (records customers.old) (line_of line.now) result (records customers.new) }
     ensures places { room customers.new ≡ room customers.old }
-    ensures lender { customers.new.places.ghost_name ≡ customers.old.places.ghost_name }
 {
     match lines::read(line)? {
         Line::Customer { figures, .. } => {
@@ -52,8 +51,7 @@ pub(crate) fn enter_all<'a, D>(
     mut lines: Lines<'a>,
     customers: &mut Register<'_, Customer>,
 ) -> Result<Lines<'a>, Fault>
-    ensures done { Takes (room customers.old) (records customers.old) lines.entry.number (readings lines.entry) (taken result (records customers.new)) }
-    ensures lender { customers.new.places.ghost_name ≡ customers.old.places.ghost_name }
+    ensures { Takes (room customers.old) (records customers.old) lines.entry.number (readings lines.entry) (taken result (records customers.new)) }
 {
     // No `for`, since the lines from the first other one on are handed on.
     let mut after = lines;

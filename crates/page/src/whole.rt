@@ -1,11 +1,11 @@
 //! A whole page, from its first line to the bills.
-ghost use Rattle.std.specs.Prelude.{◌≡◌, ◌≤◌, map, length, replicate, pos};
+ghost use Rattle.std.specs.Prelude.{◌≡◌, ◌≤◌, [], map, length, replicate, pos};
 ghost use Rattle.register.specs.Register.{room, records};
 ghost use Rattle.rows.specs.Rows.{parts_after};
 ghost use Rattle.lines.specs.Lines.{line_of};
 ghost use Rattle.page.specs.Pages.{Bodies, Leads, ComesTo};
-ghost use Rattle.page.specs.Billed.{closed_as};
-ghost use Rattle.page.specs.Sums.{All_adds_up};
+ghost use Rattle.page.specs.Billed.{closed_as, RestBlank};
+ghost use Rattle.page.specs.Sums.{PageAddsUp};
 
 use crate::acting::act_all;
 use crate::fault::{Cause, Fault, Refusal};
@@ -35,8 +35,7 @@ fn lead<D: Divider + Drop>(
     charges: &mut [i64],
 ) -> Result<ClosedBook<D>, Fault>
     requires { length (parts_after 10 rest) ≤ 65536 }
-    ensures done { Leads D.Divider.meaning (room customers.old) 512 intake (records customers.old) charges.old (map line_of (parts_after 10 rest.entry)) result (records customers.new) charges.new }
-    ensures lender { customers.new.places.ghost_name ≡ customers.old.places.ghost_name }
+    ensures { Leads D.Divider.meaning (room customers.old) 512 intake (records customers.old) charges.old (map line_of (parts_after 10 rest.entry)) result (records customers.new) charges.new }
 {
     let lines = enter_all(&intake, Lines { number: 2, rest }, customers)?;
     let line = lines.here();
@@ -51,7 +50,8 @@ fn lead<D: Divider + Drop>(
 }
 
 /// A closed and billed book, with the records of its customers, which are the
-/// first `standing` of `customers`, and their charges.
+/// first `standing` of `customers`, and their charges. The places past them are
+/// blank.
 // Memory and how many records stand in it, as `Register::of` takes them.
 #[derive(Drop)]
 pub struct Billed<D> {
@@ -61,29 +61,31 @@ pub struct Billed<D> {
     pub charges: [i64; 2048],
 }
 
-// Takes a page to its closed and billed book, in memory that it is lent.
-//
-// Each call says by `lender` that the register stays in that memory, so the
-// records stand there at the end.
+// Takes a page to its closed and billed book, by a register and a sheet that are lent.
 fn bill_in<D: Divider + Drop>(
     divider: D,
     page: &[u8],
-    memory: &mut [Customer; 512],
+    customers: &mut Register<'_, Customer>,
     charges: &mut [i64; 2048],
 ) -> Result<Billed<D>, Fault>
-    requires { charges.old ≡ replicate 2048 (pos 0) }
-    ensures { ComesTo D.Divider.meaning divider page.now (closed_as result) }
+    requires empty { records customers.old ≡ [] }
+    requires room { room customers.old ≡ 512 }
+    requires zeros { charges.old ≡ replicate 2048 (pos 0) }
+    ensures comes { ComesTo D.Divider.meaning divider page.now (closed_as result) }
+    ensures rest { RestBlank result }
 {
     let body = body(page).map_err(|refusal| Cause::from(refusal).at(0))?;
     let (first, rest) = rows::split(body, b'\n');
     let header = header_of(first).map_err(|cause| cause.at(1))?;
     let intake = Intake::new(divider, header);
-    let mut customers = Register::new(memory);
-    let book = lead(intake, rest, &mut customers, charges)?;
-    let standing = customers.len();
+    let book = lead(intake, rest, customers, charges)?;
+    let records = customers.records();
+    let standing = records.len();
+    let mut listed = [Customer::BLANK; 512];
+    listed[..standing].copy_from_slice(records);
     Ok(Billed {
         book,
-        customers: *memory,
+        customers: listed,
         standing,
         charges: *charges,
     })
@@ -103,9 +105,15 @@ fn bill_in<D: Divider + Drop>(
 /// capability, and the charges in each pool to its cost.
 pub fn bill_page<D: Divider + Drop>(divider: D, page: &[u8]) -> Result<Billed<D>, Fault>
     ensures comes { ComesTo D.Divider.meaning divider page.now (closed_as result) }
-    ensures sums { All_adds_up page.now (closed_as result) }
+    ensures rest { RestBlank result }
+    ensures sums { PageAddsUp page.now (closed_as result) }
 {
     // Fixed memory and no Vec: a page is billed without a heap. It is lent as it
     // is made, since memory that a `let` binds is cleared twice.
-    bill_in(divider, page, &mut [Customer::BLANK; 512], &mut [0; 2048])
+    bill_in(
+        divider,
+        page,
+        &mut Register::new(&mut [Customer::BLANK; 512]),
+        &mut [0; 2048],
+    )
 }

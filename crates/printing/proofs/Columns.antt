@@ -18,7 +18,7 @@ use Rattle.page.specs.declared.fault.Fault.{Fault}
 use Rattle.page.specs.Pages as page
 use Rattle.page.specs.Pages.{Reading, Closed, Heads, Leads, Settles, ComesTo, page_lines}
 use Rattle.page.proofs.Adding.{page_adds_up}
-use Rattle.printing.specs.Listings.{numbers, AddsUp}
+use Rattle.printing.specs.Listings.{numbers, ListingAddsUp}
 use Rattle.printing.specs.Steps.{CustomersFirst, Headed, Listable}
 use Rattle.printing.proofs.Numbers.{all_found, sum_by-column, sumℤ-column}
 use Rattle.printing.proofs.Taking.{takes_numbers, takes_ordered, takes_few, takes_first, plays_none, plays_numbers, founds_numbers, settles_numbers}
@@ -74,7 +74,7 @@ module _ {D : Type 0} (m : D → Meaning) where
       }
 
   -- Each of its customers has one row, and the columns of the rows add up.
-  pub comes_adds_up : ((d : D) → LawfulMeaning (m d)) → (d : D) (bytes : List ℕ) (r : Result (Closed D) Fault) → ComesTo m d bytes r → AddsUp bytes r
+  pub comes_adds_up : ((d : D) → LawfulMeaning (m d)) → (d : D) (bytes : List ℕ) (r : Result (Closed D) Fault) → ComesTo m d bytes r → ListingAddsUp bytes r
   comes_adds_up fair d bytes (Err f) comes = tt
   comes_adds_up fair d bytes (Ok c) comes =
       let cs = c.customers in

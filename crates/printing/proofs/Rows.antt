@@ -1,7 +1,7 @@
 -- Rows that are written one after the other.
 use Rattle.std.proofs.Common.{◌≡◌, ℕ, ◌+◌, ◌-◌, ◌*◌, ◌≤◌, true, List, [], ◌∷◌, ◌++◌, length, min, ◌<◌, ⊎_elim, take, map, drop, ℤ, is_some, Some, Ok, Err, Option, Bor, sym, refl, ap, subst, ◌∙◌, arith}
 use Rattle.std.specs.List.{All}
-use Rattle.std.proofs.lemmas.List.{append-nil, append_assoc, take-append-drop, take_all, take_at, drop_at, length-append, length-drop}
+use Rattle.std.proofs.lemmas.List.{append-nil, append_assoc, take-append-drop, take_all, take_at, drop_at, length-append}
 use Rattle.std.proofs.lemmas.Bool.{cases_lt}
 use Rattle.std.proofs.lemmas.List.Elements.{All-tail}
 use Rattle.register.proofs.Rising.{front_in_order}
@@ -62,9 +62,6 @@ module _ (cs : List Customer) (ch : List ℤ) (all buffer : List ℕ) (most : �
   all_written {rs} {at} {b} g none =
       let whole : take at all ≡ all = sym (append-nil (take at all)) ∙ ap (λ (t : List ℕ). take at all ++ t) (sym (g.left ∙ none)) ∙ take-append-drop at all in
       (g.written.0 ∙ ap length whole, omega (arith, g.few), g.written.1 ∙ ap (λ (t : List ℕ). over t buffer) whole)
-
-  pub length_going : {rs : List Reading} {at : ℕ} {b : List ℕ} → Going rs at b → length b ≡ length buffer
-  length_going {rs} {at} {b} g = omega (arith, ap length g.written.1, length-append (take at all) (drop (length (take at all)) buffer), length-drop (length (take at all)) buffer, g.written.0, g.room)
 
   -- the first line that is left, by what it reads as, and those after it
   pub first_left : {rest : Option (Bor (List ℕ))} {bytes : Bor (List ℕ)} {r : Reading} {at : ℕ} {b : List ℕ} (p : Bor (List ℕ) × Option (Bor (List ℕ))) → Going (map line_of (parts_after 10 rest)) at b → rest ≡ Some bytes → all_parts 10 p ≡ parted 10 bytes.now → line_of p.0.now ≡ r → Going (r ∷ map line_of (parts_after 10 p.1)) at b

@@ -68,15 +68,15 @@ module _ {D : Type 0} where
     pub above : sum_by (λ n. above_rhwm (listed c n)) (numbers rs) ≡ sum_by above_rhwm c.customers
     pub charges : (p : Pool) → sumℤ (map (charged c p) (numbers rs)) ≡ pool_cost c.book.costs c.book.credits p
 
-  abbrev pub AddsUp : List ℕ → Result (Closed D) Fault → Type 0
-  AddsUp page (Ok c) = ListsAll (map line_of (page_lines page)) c
-  AddsUp page (Err f) = Unit {0}
+  abbrev pub ListingAddsUp : List ℕ → Result (Closed D) Fault → Type 0
+  ListingAddsUp page (Ok c) = ListsAll (map line_of (page_lines page)) c
+  ListingAddsUp page (Err f) = Unit {0}
 
   -- What a page comes to is printed at the front of a buffer.
   pub record Prints (m : D → Meaning) (d : D) (page buffer : List ℕ) (r : Printed) (buffer' : List ℕ) : Type 0 where
     pub outcome : Result (Closed D) Fault
     pub comes : ComesTo m d page outcome
-    pub adds_up : AddsUp page outcome
+    pub adds_up : ListingAddsUp page outcome
     pub fault : r.fault ≡ fault_of outcome
     pub count : r.length ≡ length (text page outcome)
     pub after : buffer' ≡ text page outcome ++ drop (length (text page outcome)) buffer

@@ -19,11 +19,11 @@ returns-in-Grant-clause-done g c =
     let b = c.args.book.now in
     let cs = records c.args.customers.now in
     let ls = records c.args.costs.now in
-    subst (λ x. LineActs (room c.args.costs.now) b cs ls x c.grant.result c.grant.new.book (records c.grant.new.customers) ls) (sym (ap (λ v. Ok (contents v)) c.in-Grant.is) ∙ c.in_ok-read.ensures.reads) (answered_by tt (λ a. Grants b cs c.in-Grant.customer c.in-Grant.load a c.grant.new.book (records c.grant.new.customers)) (λ a. Acts (room c.args.costs.now) b cs ls (grant c.in-Grant.customer c.in-Grant.load) a c.grant.new.book (records c.grant.new.customers) ls) c.grant.result (λ a s. grants s) c.grant.ensures.done)
+    subst (λ x. LineActs (room c.args.costs.now) b cs ls x c.grant.result c.grant.new.book (records c.grant.new.customers) ls) (sym (ap (λ v. Ok (contents v)) c.in-Grant.is) ∙ c.in_ok-read.ensures.reads) (answered_by tt (λ a. Grants b cs c.in-Grant.customer c.in-Grant.load a c.grant.new.book (records c.grant.new.customers)) (λ a. Acts (room c.args.costs.now) b cs ls (grant c.in-Grant.customer c.in-Grant.load) a c.grant.new.book (records c.grant.new.customers) ls) c.grant.result (λ a s. grants s) c.grant.ensures)
 
 pub returns-in-Transfer-clause-done : goal.returns-in-Transfer-clause-done
 returns-in-Transfer-clause-done g c =
     let b = c.args.book.now in
     let cs = records c.args.customers.now in
     let ls = records c.args.costs.now in
-    subst (λ x. LineActs (room c.args.costs.now) b cs ls x c.transfer.result b (records c.transfer.new.customers) ls) (sym (ap (λ v. Ok (contents v)) c.in-Transfer.is) ∙ c.in_ok-read.ensures.reads) (answered_by tt (λ a. Moves cs c.in-Transfer.giver c.in-Transfer.receiver c.in-Transfer.load a (records c.transfer.new.customers)) (λ a. Acts (room c.args.costs.now) b cs ls (transfer c.in-Transfer.giver c.in-Transfer.receiver c.in-Transfer.load) a b (records c.transfer.new.customers) ls) c.transfer.result (λ a s. transfers s) c.transfer.ensures.done)
+    subst (λ x. LineActs (room c.args.costs.now) b cs ls x c.transfer.result b (records c.transfer.new.customers) ls) (sym (ap (λ v. Ok (contents v)) c.in-Transfer.is) ∙ c.in_ok-read.ensures.reads) (answered_by tt (λ a. Moves cs c.in-Transfer.giver c.in-Transfer.receiver c.in-Transfer.load a (records c.transfer.new.customers)) (λ a. Acts (room c.args.costs.now) b cs ls (transfer c.in-Transfer.giver c.in-Transfer.receiver c.in-Transfer.load) a b (records c.transfer.new.customers) ls) c.transfer.result (λ a s. transfers s) c.transfer.ensures)

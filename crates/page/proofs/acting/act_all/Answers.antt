@@ -1,4 +1,4 @@
-use Rattle.std.proofs.Common.{map, length, Ok, sym, ap, ◌∙◌, subst, arith, rules}
+use Rattle.std.proofs.Common.{map, length, Ok, sym, ap, subst, arith, rules}
 use Rattle.register.specs.Register.{room, records}
 use Rattle.lines.specs.Lines.{line_of}
 use Rattle.std.proofs.lemmas.List.{length-map}
@@ -15,7 +15,6 @@ loop-number-preserved g c =
       plays = λ o p. c.loop-number.invariant.plays o (first_acts _ _ _ _ _ _ _ _ _ _ _ _ _ _ c.in-Some.ensures.steps c.act.ensures.done c.in_ok-map_err.field-0 is c.act.ensures.places o p);
       next = omega (arith, c.in-Some.ensures.steps);
       counts = simp length-map (omega (arith, simp length-map at c.loop-number.invariant.counts, c.in-Some.ensures.steps.next, ap length c.in-Some.ensures.steps.parts));
-      lender = c.act.ensures.lender ∙ c.loop-number.invariant.lender;
     }
 
 pub returns-in_err-map_err-clause-done : goal.returns-in_err-map_err-clause-done

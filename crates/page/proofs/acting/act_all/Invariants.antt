@@ -10,5 +10,4 @@ invariant-loop-number g l = record {
   plays : (o : Result (Open g.row.D.Denot) Fault) → Plays (room l.costs) l.book (records l.customers) (records l.costs) l.number-iterator.number (readings l.number-iterator) o → Plays (room l.initial.costs) l.initial.book (records l.initial.customers) (records l.initial.costs) l.fn.lines.number (readings l.fn.lines) o;
   next : l.number-iterator.number ≡ l.last + 1;
   counts : l.number-iterator.number + length (readings l.number-iterator) ≡ l.fn.lines.number + length (readings l.fn.lines);
-  lender : l.customers.places.ghost_name ≡ l.initial.customers.places.ghost_name;
 }

@@ -14,17 +14,16 @@ loop-number-preserved g c =
     record {
       same = refl;
       takes = λ o t. c.loop-number.invariant.takes o (first_enters _ _ _ _ _ _ _ _ _ _ c.in-Some.ensures.steps c.enter_line.ensures.done (is ∙ ap Ok c.if-not-branch.false) c.enter_line.ensures.places o t);
-      lender = c.enter_line.ensures.lender ∙ c.loop-number.invariant.lender;
     }
 
-pub returns-in_err-map_err-clause-done : goal.returns-in_err-map_err-clause-done
-returns-in_err-map_err-clause-done g c =
+pub returns-in_err-map_err : goal.returns-in_err-map_err
+returns-in_err-map_err g c =
     let p = err_from_is_err_and c.from_residual.result c.from_residual.ensures.1 in
     let t = told_as _ _ _ c.enter_line.result c.in_err-map_err.field-0.0 _ c.in_err-map_err.ensures.cases in
     rw (p.1, p.2) (c.loop-number.invariant.takes _ (first_unentered _ 0 _ _ _ _ _ _ _ _ c.in-Some.ensures.steps c.enter_line.ensures.done t.0 c.in_err-map_err.field-0.0 t.1 (search rules)))
 
-pub returns-clause-done : goal.returns-clause-done
-returns-clause-done g c =
+pub returns : goal.returns
+returns g c =
     let l = c.loop-number in
     elim c.match-next.branch [
       | in-Some+in_ok-map_err+then-not-branch w ↦

@@ -10,7 +10,6 @@ abbrev pub invariant-loop-number : goal.invariant-loop-number
 invariant-loop-number g l = record {
   same : l.lines ≡ l.after;
   takes : (o : Result Taken Fault) → Takes (room l.customers) (records l.customers) l.after.number (readings l.after) o → Takes (room l.initial.customers) (records l.initial.customers) l.initial.lines.number (readings l.initial.lines) o;
-  lender : l.customers.places.ghost_name ≡ l.initial.customers.places.ghost_name;
 }
 
 abbrev pub decreases-loop-number : goal.decreases-loop-number

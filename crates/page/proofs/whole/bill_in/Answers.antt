@@ -1,10 +1,11 @@
-use Rattle.std.proofs.Common.{◌≡◌, ℕ, ◌-◌, ◌≤◌, ◌==◌, List, [], ◌∷◌, length, take, replicate, ℤ, pos, Ok, Err, Option, Result, sym, ap, ◌∙◌, subst, arith, rules, Bor}
-use Rattle.std.proofs.lemmas.List.{length-take, length-take-le}
+use Rattle.std.proofs.Common.{◌≡◌, ℕ, ◌-◌, ◌≤◌, ◌==◌, List, [], ◌∷◌, ◌++◌, length, take, drop, replicate, ℤ, pos, Ok, Err, Option, Result, sym, ap, ◌∙◌, subst, arith, rules, Bor}
+use Rattle.std.proofs.lemmas.List.{length-take, take_at, drop_at, drop-replicate}
 use Rattle.std.proofs.lemmas.List.Sums.{count_by-le-length}
 use Rattle.std.proofs.lemmas.Result.{err_from_is_err_and}
 use Rattle.units.specs.declared.header.Header.{Header}
 use Rattle.register.specs.Register.{memory, room, count, records}
 use Rattle.records.specs.declared.customer.Customer.{Customer}
+use Rattle.book.specs.Customers.{nobody}
 use Rattle.book.specs.Rates.{Meaning}
 use Rattle.book.specs.declared.stages.Intake.{Intake}
 use Rattle.book.specs.declared.stages.ClosedBook.{ClosedBook}
@@ -48,15 +49,15 @@ lead-requires g c =
     let b = still_ok _ _ _ c.body.result c.in_ok-body.body c.in_ok-body.ensures.cases in
     few_lines c.args.page.now c.in_ok-body.body c.split.result (subst (Bodies c.args.page.now) b c.body.ensures) c.split.ensures
 
-pub returns-in_err-body : goal.returns-in_err-body
-returns-in_err-body g c =
+pub returns-in_err-body-clause-comes : goal.returns-in_err-body-clause-comes
+returns-in_err-body-clause-comes g c =
     let p = err_from_is_err_and c.from_residual.result c.from_residual.ensures.1 in
     let t = told_as _ _ _ c.body.result c.in_err-body.field-0.0 _ c.in_err-body.ensures.cases in
     let at : c.in_err-body.field-0.0 ≡ at_line 0 (Page t.0) = search rules in
     rw (p.1, p.2) (at_fault at (refused_page t.0 (subst (Bodies c.args.page.now) t.1 c.body.ensures)))
 
-pub returns-in_err-header : goal.returns-in_err-header
-returns-in_err-header g c =
+pub returns-in_err-header-clause-comes : goal.returns-in_err-header-clause-comes
+returns-in_err-header-clause-comes g c =
     let p = err_from_is_err_and c.from_residual-in_err-header.result c.from_residual-in_err-header.ensures.1 in
     let b = still_ok _ _ _ c.body.result c.in_ok-body.body c.in_ok-body.ensures.cases in
     let s : Bodies c.args.page.now (Ok c.in_ok-body.body) = subst (Bodies c.args.page.now) b c.body.ensures in
@@ -64,30 +65,35 @@ returns-in_err-header g c =
     let at : c.in_err-header.field-0.0 ≡ at_line 1 t.0 = search rules in
     rw (p.1, p.2) (at_fault at (headless s.0 s.1 (lines_are c.args.page.now c.in_ok-body.body c.split.result s c.split.ensures) (subst (Heads (line_of c.split.result.0.now)) t.1 c.header_of.ensures)))
 
-pub returns-in_err-book : goal.returns-in_err-book
-returns-in_err-book g c =
+pub returns-in_err-book-clause-comes : goal.returns-in_err-book-clause-comes
+returns-in_err-book-clause-comes g c =
     let p = err_from_is_err_and c.from_residual-in_err-book.result c.from_residual-in_err-book.ensures.1 in
     let b = still_ok _ _ _ c.body.result c.in_ok-body.body c.in_ok-body.ensures.cases in
     let s : Bodies c.args.page.now (Ok c.in_ok-body.body) = subst (Bodies c.args.page.now) b c.body.ensures in
     let h = still_ok _ _ _ c.header_of.result c.in_ok-header.header c.in_ok-header.ensures.cases in
     let heads = subst (Heads (line_of c.split.result.0.now)) h c.header_of.ensures in
-    let full : room c.new-customers.result ≡ 512 = omega (arith, ap length c.new-customers.ensures.memory) in
-    rw (p.1, p.2) (faulted s.0 s.1 (lines_are c.args.page.now c.in_ok-body.body c.split.result s c.split.ensures) heads (from_start (room c.new-customers.result) c.new-intake.result (records c.new-customers.result) _ full c.new-intake.ensures.divider c.new-intake.ensures.header c.new-customers.ensures.records c.requires c.in_err-book.ensures.done))
+    rw (p.1, p.2) (faulted s.0 s.1 (lines_are c.args.page.now c.in_ok-body.body c.split.result s c.split.ensures) heads (from_start (room c.args.customers.now) c.new-intake.result (records c.args.customers.now) _ c.requires.room c.new-intake.ensures.divider c.new-intake.ensures.header c.requires.empty c.requires.zeros c.in_err-book.ensures))
 
--- the records stand in the first places of their memory
-standing_first : (n k : ℕ) (cs : List Customer) → k ≤ length cs → n ≡ length (take k cs) → take k cs ≡ take n cs
-standing_first n k cs most is = ap (λ i. take i cs) (sym (length-take-le k cs most) ∙ sym is)
+-- the records that were copied stand in the first places
+copied : (xs rs cs rest : List Customer) → xs ≡ rs → rs ≡ cs → cs ≡ take (length rs) (xs ++ rest)
+copied xs rs cs rest e is = sym (take_at xs rest (length rs) (ap length e) ∙ e ∙ is)
 
 with_customers : {D : Type 0} {m : D → Meaning} {d : D} {page : List ℕ} {b : ClosedBook D} {ch : List ℤ} {cs cs' : List Customer} → cs ≡ cs' → ComesTo m d page (Ok (record { book = b; customers = cs; charges = ch })) → ComesTo m d page (Ok (record { book = b; customers = cs'; charges = ch }))
 with_customers {D} {m} {d} {page} {b} {ch} is x =
     subst (λ cs. ComesTo m d page (Ok (record { book = b; customers = cs; charges = ch }))) is x
 
-pub returns : goal.returns
-returns g c =
+pub returns-clause-comes : goal.returns-clause-comes
+returns-clause-comes g c =
     let b = still_ok _ _ _ c.body.result c.in_ok-body.body c.in_ok-body.ensures.cases in
     let s : Bodies c.args.page.now (Ok c.in_ok-body.body) = subst (Bodies c.args.page.now) b c.body.ensures in
     let h = still_ok _ _ _ c.header_of.result c.in_ok-header.header c.in_ok-header.ensures.cases in
     let heads = subst (Heads (line_of c.split.result.0.now)) h c.header_of.ensures in
-    let full : room c.new-customers.result ≡ 512 = omega (arith, ap length c.new-customers.ensures.memory) in
-    let register = c.lead.new.customers in
-    with_customers (standing_first c.len-standing.result (count register) (memory register) (omega arith) c.len-standing.ensures) (billed_page s.0 s.1 (lines_are c.args.page.now c.in_ok-body.body c.split.result s c.split.ensures) heads (from_start (room c.new-customers.result) c.new-intake.result (records c.new-customers.result) _ full c.new-intake.ensures.divider c.new-intake.ensures.header c.new-customers.ensures.records c.requires c.in_ok-book.ensures.done))
+    with_customers (copied c.copy_from_slice.new.self c.records-records.result.now (records c.lead.new.customers) _ c.copy_from_slice.ensures.after c.records-records.ensures) (billed_page s.0 s.1 (lines_are c.args.page.now c.in_ok-body.body c.split.result s c.split.ensures) heads (from_start (room c.args.customers.now) c.new-intake.result (records c.args.customers.now) _ c.requires.room c.new-intake.ensures.divider c.new-intake.ensures.header c.requires.empty c.requires.zeros c.in_ok-book.ensures))
+
+pub returns-clause-rest : goal.returns-clause-rest
+returns-clause-rest g c =
+    let n = length c.records-records.result.now in
+    let register = c.lead.new.customers in (
+      omega (arith, ap length c.records-records.ensures, length-take (count register) (memory register)),
+      drop_at c.copy_from_slice.new.self (drop n (replicate 512 nobody)) n (ap length c.copy_from_slice.ensures.after) ∙ drop-replicate n 512 nobody,
+    )

@@ -33,36 +33,36 @@ founded_at n None = refl
 founded_at n (Some bytes) =
     sym (ap (λ b. cond b (n - 1) n) (ne_eqb _ 0 (λ none. absurd (omega (arith, none, length_parted 10 bytes.now, length-map (parts_after 10 (Some bytes)) line_of)))))
 
-pub returns-in_err-lines-clause-done : goal.returns-in_err-lines-clause-done
-returns-in_err-lines-clause-done g c =
+pub returns-in_err-lines : goal.returns-in_err-lines
+returns-in_err-lines g c =
     let p = err_from_is_err_and c.from_residual.result c.from_residual.ensures.1 in
-    rw (p.1, p.2) (untaken c.in_err-lines.ensures.done)
+    rw (p.1, p.2) (untaken c.in_err-lines.ensures)
 
-pub returns-in_err-book-clause-done : goal.returns-in_err-book-clause-done
-returns-in_err-book-clause-done g c =
+pub returns-in_err-book : goal.returns-in_err-book
+returns-in_err-book g c =
     let p = err_from_is_err_and c.from_residual-in_err-book.result c.from_residual-in_err-book.ensures.1 in
     let t = told_as _ _ _ c.found.result c.in_err-book.field-0.0 _ c.in_err-book.ensures.cases in
     let lines = c.in_ok-lines.lines in
     let e : c.in_err-book.field-0.0 ≡ at_line c.here-line.result (Book t.0.1) = search rules in
-    rw (p.1, p.2) (at_fault (e ∙ ap (λ n. at_line n (Book t.0.1)) (c.here-line.ensures ∙ founded_at lines.number lines.rest)) (unfounded c.in_ok-lines.ensures.done (subst (λ r. FoundsOn g.D.Divider.meaning c.args.intake (records c.enter_all.new.customers) r (records c.found.new.customers)) t.1 c.found.ensures.done)))
+    rw (p.1, p.2) (at_fault (e ∙ ap (λ n. at_line n (Book t.0.1)) (c.here-line.ensures ∙ founded_at lines.number lines.rest)) (unfounded c.in_ok-lines.ensures (subst (λ r. FoundsOn g.D.Divider.meaning c.args.intake (records c.enter_all.new.customers) r (records c.found.new.customers)) t.1 c.found.ensures)))
 
-pub returns-in_err-last-clause-done : goal.returns-in_err-last-clause-done
-returns-in_err-last-clause-done g c =
+pub returns-in_err-last : goal.returns-in_err-last
+returns-in_err-last g c =
     let p = err_from_is_err_and c.from_residual-in_err-last.result c.from_residual-in_err-last.ensures.1 in
     let is = still_ok _ _ _ c.found.result c.in_ok-book.book c.in_ok-book.ensures.cases in
-    let founds = subst (λ r. FoundsOn g.D.Divider.meaning c.args.intake (records c.enter_all.new.customers) r (records c.found.new.customers)) is c.found.ensures.done in
+    let founds = subst (λ r. FoundsOn g.D.Divider.meaning c.args.intake (records c.enter_all.new.customers) r (records c.found.new.customers)) is c.found.ensures in
     let full : room c.new.result ≡ 512 = ap (λ m. min (length m) 512) c.new.ensures.memory in
-    rw (p.1, p.2) (unplayed c.in_ok-lines.ensures.done founds (fresh (room c.new.result) c.in_ok-book.book _ (records c.new.result) c.in_ok-lines.lines.number _ _ full c.new.ensures.records c.in_err-last.ensures.done))
+    rw (p.1, p.2) (unplayed c.in_ok-lines.ensures founds (fresh (room c.new.result) c.in_ok-book.book _ (records c.new.result) c.in_ok-lines.lines.number _ _ full c.new.ensures.records c.in_err-last.ensures.done))
 
-pub returns-clause-done : goal.returns-clause-done
-returns-clause-done g c =
+pub returns : goal.returns
+returns g c =
     let is = still_ok _ _ _ c.found.result c.in_ok-book.book c.in_ok-book.ensures.cases in
-    let founds = subst (λ r. FoundsOn g.D.Divider.meaning c.args.intake (records c.enter_all.new.customers) r (records c.found.new.customers)) is c.found.ensures.done in
+    let founds = subst (λ r. FoundsOn g.D.Divider.meaning c.args.intake (records c.enter_all.new.customers) r (records c.found.new.customers)) is c.found.ensures in
     let full : room c.new.result ≡ 512 = ap (λ m. min (length m) 512) c.new.ensures.memory in
     let plays = fresh (room c.new.result) c.in_ok-book.book _ (records c.new.result) c.in_ok-lines.lines.number _ _ full c.new.ensures.records c.in_ok-last.ensures.done in
     either_way _ _ _ (λ r. Leads g.D.Divider.meaning (room c.args.customers.now) 512 c.args.intake (records c.args.customers.now) c.args.charges.now (map line_of (parts_after 10 c.args.rest)) r (records c.settle.new.customers) c.settle.new.charges) c.settle.result c.map_err-2.result _ c.map_err-2.ensures.cases
-    (λ x is. ends c.in_ok-lines.ensures.done founds plays (subst (λ r. Settles g.D.Divider.meaning c.act_all.new.book (records c.act_all.new.customers) c.args.charges.now r (records c.settle.new.customers) c.settle.new.charges) is c.settle.ensures.done))
+    (λ x is. ends c.in_ok-lines.ensures founds plays (subst (λ r. Settles g.D.Divider.meaning c.act_all.new.book (records c.act_all.new.customers) c.args.charges.now r (records c.settle.new.customers) c.settle.new.charges) is c.settle.ensures))
     (λ e f is q.
     let at : f ≡ at_line c.in_ok-last.last (Book e) = search rules in
-    let last : c.in_ok-last.last ≡ length (map line_of (parts_after 10 c.args.rest)) + 1 = omega (arith, takes_counts c.in_ok-lines.ensures.done, c.in_ok-last.ensures.last) in
-    at_fault (at ∙ ap (λ n. at_line n (Book e)) last) (ends_refused c.in_ok-lines.ensures.done founds plays (subst (λ r. Settles g.D.Divider.meaning c.act_all.new.book (records c.act_all.new.customers) c.args.charges.now r (records c.settle.new.customers) c.settle.new.charges) is c.settle.ensures.done)))
+    let last : c.in_ok-last.last ≡ length (map line_of (parts_after 10 c.args.rest)) + 1 = omega (arith, takes_counts c.in_ok-lines.ensures, c.in_ok-last.ensures.last) in
+    at_fault (at ∙ ap (λ n. at_line n (Book e)) last) (ends_refused c.in_ok-lines.ensures founds plays (subst (λ r. Settles g.D.Divider.meaning c.act_all.new.book (records c.act_all.new.customers) c.args.charges.now r (records c.settle.new.customers) c.settle.new.charges) is c.settle.ensures)))
