@@ -1,6 +1,6 @@
 -- Whole parts and remainders, all together.
-use Rattle.std.proofs.Common.{◌≡◌, ℕ, ◌+◌, ◌-◌, ◌*◌, ◌/◌, ◌%◌, ◌<◌, ◌≤◌, List, [], ◌∷◌, length, get_or, sum_by, sum, add-mul, mul-zero, div-add-mod', mul-add, le_of_mul-le-mul_right, arith}
-use Rattle.std.proofs.lemmas.List.Sums.{sum_by-cons, get_or-le-sum_by}
+use Rattle.std.proofs.Common.{◌≡◌, ℕ, ◌+◌, ◌*◌, ◌/◌, ◌≤◌, List, [], ◌∷◌, sum_by, sum, add-mul, mul-zero, div-add-mod', mul-add, le_of_mul-le-mul_right, arith}
+use Rattle.std.proofs.lemmas.List.Sums.{sum_by-cons}
 use Rattle.std.proofs.lemmas.Nat.{mul-le}
 use Rattle.divider.specs.Questions.{limit, Passes}
 use Rattle.divider.specs.Shares.{whole, rest}
@@ -25,17 +25,6 @@ wholes_le t ws p =
     let l : sum_by (whole t (sum ws)) ws * sum ws ≤ t * sum ws = omega arith in
     le_of_mul-le-mul_right l p.some
 
--- a weight's product with the total is within the limit
-pub product_le : (t : ℕ) (ws : List ℕ) (i : ℕ) → Passes t ws → i < length ws → t * get_or ws i 0 ≤ limit
-product_le t ws i p h =
-    let g = get_or-le-sum_by (λ x. x) ws i 0 h in
-    let m = mul-le t (get_or ws i 0) t (sum ws) (omega arith) g in
-    omega (arith, p.fits)
-
--- and so is the total
+-- the total is within the limit
 pub total_le : (t : ℕ) (ws : List ℕ) → Passes t ws → t ≤ limit
 total_le t ws p = let m = mul-le t 1 t (sum ws) (omega arith) p.some in omega (arith, p.fits)
-
--- the remainder, without a second division
-pub rest_is : (n s : ℕ) → n - n / s * s ≡ n % s
-rest_is n s = let d = div-add-mod' n s in omega arith

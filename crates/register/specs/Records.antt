@@ -48,11 +48,12 @@ abbrev pub rises : Option ℕ → ℕ → Bool
 rises None n = true
 rises (Some last) n = nat_lt last n
 
--- The records from the first one on that stand in rising order.
+-- The records from the first one on that rise, the first of them above the last number if there is one.
 abbrev pub rising_after : {R : Type 0} → (R → ℕ) → Option ℕ → List R → List R
 rising_after key last [] = []
 rising_after key last (x ∷ xs) = cond (rises last (key x)) (x ∷ rising_after key (Some (key x)) xs) []
 
+-- The records from the first one on that stand in rising order.
 abbrev pub rising_front : {R : Type 0} → (R → ℕ) → List R → List R
 rising_front key xs = rising_after key None xs
 

@@ -1,6 +1,6 @@
 -- A register keeps records of one kind, in rising order of their numbers, in
 -- memory that it is lent. The records stand in the first places of the
--- memory; what the other places hold is no part of the register.
+-- memory; what the other places hold is no record, and stays but for shifts.
 use Rattle.std.specs.Prelude.{◌≡◌, ℕ, ◌<◌, min, true, List, ◌++◌, length, take, drop, is_some, Some, None, Ok, Err, Option, Result}
 use Rattle.register.specs.Records.{lookup, place_of, usable}
 use Rattle.register.specs.declared.Keyed.{Ghosts}
