@@ -14,6 +14,7 @@ use Rattle.lines.specs.Questions.{a_name}
 use Rattle.rows.specs.Rows.{joined}
 use Rattle.listing.specs.declared.refusal.Refusal.{Refusal}
 use Rattle.listing.specs.declared.refusal.Refusal.TheVariants.{Missing, ShortSheet, NotAName, NoRoom}
+use Rattle.listing.specs.declared.rows_of.TheConstants.{ROW}
 use Rattle.listing.specs.Answers.{told}
 
 -- Fields with commas between them, and the end byte.
@@ -60,9 +61,9 @@ sum_row costs credits cs =
     ∷ []
     )
 
--- No row that is written has more bytes.
+-- No row that is written has more bytes: 225.
 abbrev pub longest : ℕ
-longest = 225
+longest = ROW
 
 -- A row that is written, or that wants nothing but room, is no longer.
 abbrev pub Short : List ℕ → Result ℕ Refusal → Type 0
