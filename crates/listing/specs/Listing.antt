@@ -1,5 +1,5 @@
 -- The rows of a listing.
-use Rattle.std.specs.Prelude.{◌≡◌, ℕ, ◌+◌, ◌*◌, ◌≤◌, cond, List, [], ◌∷◌, ◌++◌, length, get_or, drop, ℤ, pos, is_some, is_ok, decimal, sum_by, Ok, Err, Result, nat_le, slice_index_or}
+use Rattle.std.specs.Prelude.{◌≡◌, ℕ, ◌+◌, ◌*◌, ◌≤◌, cond, List, [], ◌∷◌, ◌++◌, length, get_or, drop, ℤ, pos, is_some, is_ok, decimal, sum_by, Ok, Err, Result, nat_le}
 use Rattle.std.specs.Fmt.{signed_decimal}
 use Rattle.register.specs.Records.{lookup, place_of}
 use Rattle.records.specs.declared.customer.Customer.{Customer}
@@ -23,7 +23,7 @@ ended fs = joined fs ++ (10 ∷ [])
 
 -- The charge in a pool of the customer at a place, of n customers.
 abbrev pub charge_at : List ℤ → ℕ → ℕ → Pool → ℤ
-charge_at charges n k p = slice_index_or charges (order p * n + k) (pos 0)
+charge_at charges n k p = get_or charges (order p * n + k) (pos 0)
 
 -- The row of the customer at a place: number, name, mark, RHWM, Above-RHWM load, charges in C, N, S, T.
 abbrev pub row_at : List Customer → List ℤ → ℕ → List ℕ → List ℕ
@@ -33,7 +33,7 @@ row_at cs charges k name =
     ∷ name
     ∷ decimal (get_or cs k nobody).mark
     ∷ decimal (get_or cs k nobody).rhwm
-    ∷ decimal (above_rhwm (slice_index_or cs k nobody))
+    ∷ decimal (above_rhwm (get_or cs k nobody))
     ∷ signed_decimal (charge_at charges (length cs) k Composite)
     ∷ signed_decimal (charge_at charges (length cs) k NonSlice)
     ∷ signed_decimal (charge_at charges (length cs) k Slice)

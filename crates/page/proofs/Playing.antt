@@ -10,7 +10,8 @@ use Rattle.page.specs.declared.fault.Cause.{Cause}
 use Rattle.page.specs.declared.fault.Cause.TheVariants.{Page, Line, Book}
 use Rattle.page.specs.declared.fault.Fault.{Fault}
 use Rattle.page.specs.Remaining.{FirstOf}
-use Rattle.page.specs.Pages.{Reading, at_line, Answered, Taken, Takes, no_more, not_read, second_header, enters, not_entered, at_cost, at_grant, at_transfer, LineEnters, Open, Acts, Plays, unread, headed, late, acts, refused, LineActs}
+use Rattle.page.specs.Pages.{Reading, at_line, Taken, Takes, no_more, not_read, second_header, enters, not_entered, at_cost, at_grant, at_transfer, Open, Acts, Plays, unread, headed, late, acts, refused}
+use Rattle.page.specs.Steps.{Answered, LineEnters, LineActs}
 
 never_ok : {X E : Type 0} {A : Type 0} (x : X) (e : E) → ◌≡◌ {A = Result X E} (Ok x) (Err e) → A
 never_ok x e is = let z : ◌≡◌ {A = ℕ} 0 1 = cc in absurd (omega arith)

@@ -1,6 +1,5 @@
 -- What a page comes to: its lines one after the other, then the close and the bills.
 use Rattle.std.specs.Prelude.{◌≡◌, ℕ, ◌+◌, ◌-◌, ◌<◌, ◌≤◌, Bool, true, false, cond, List, [], ◌∷◌, map, length, take, replicate, ℤ, pos, Ok, Err, Result, ◌==◌, slice_index}
-use Rattle.std.specs.Borrow.{Bor}
 use Rattle.units.specs.declared.header.Header.{Header}
 use Rattle.records.specs.declared.customer.Customer.{Customer}
 use Rattle.records.specs.declared.cost_line.CostLine.{CostLine}
@@ -15,14 +14,12 @@ use Rattle.book.specs.Customers.{Enters}
 use Rattle.book.specs.Lines.{Posts}
 use Rattle.book.specs.Marks.{Grants, Lifts, Lands}
 use Rattle.book.specs.Rates.{Meaning, Founds, Closes, Bills}
-use Rattle.rows.specs.Rows.{parted, parts_after}
+use Rattle.rows.specs.Rows.{parted}
 use Rattle.lines.specs.Lines.{Contents, header, customer, cost, grant, transfer, line_of}
 use Rattle.lines.specs.declared.fault.Fault as lines
 use Rattle.page.specs.declared.fault.Cause.{Cause}
 use Rattle.page.specs.declared.fault.Cause.TheVariants.{Page, Line, Book}
 use Rattle.page.specs.declared.fault.Fault.{Fault}
-use Rattle.page.specs.declared.fault.Refusal.{Refusal}
-use Rattle.page.specs.declared.remaining.Lines.{Lines}
 use Rattle.page.specs.declared.fault.Refusal.TheVariants.{TooLong, Unended, HeaderPlace, LateCustomer}
 
 -- What a line reads as.
@@ -31,13 +28,6 @@ Reading = Result Contents lines.Fault
 
 abbrev pub at_line : ℕ → Cause → Fault
 at_line n c = record { line = n; cause = c }
-
--- The answer of a call of the book, as a line gives it.
-abbrev pub Answered : {X : Type 0} → (Result (Unit {0}) book.Refusal → Type 0) → X → Result X Cause → Type 0
-Answered P x (Ok y) = (y ≡ x) × P (Ok tt)
-Answered P x (Err (Page e)) = ⊥
-Answered P x (Err (Line e)) = ⊥
-Answered P x (Err (Book e)) = P (Err e)
 
 -- The customers that were taken in, the number of the line after theirs, and the lines from it on.
 pub record Taken : Type 0 where
@@ -68,24 +58,6 @@ pub data Takes (places : ℕ) : List Customer → ℕ → List Reading → Resul
   at_grant : {cs : List Customer} {n number load : ℕ} {rs : List Reading} → Takes places cs n (Ok (grant number load) ∷ rs) (Ok (record { customers = cs; number = n; rest = Ok (grant number load) ∷ rs }))
   at_transfer : {cs : List Customer} {n giver receiver load : ℕ} {rs : List Reading} → Takes places cs n (Ok (transfer giver receiver load) ∷ rs) (Ok (record { customers = cs; number = n; rest = Ok (transfer giver receiver load) ∷ rs }))
 
--- What a line does while customers are taken in, by what it reads as: whether it enters one.
-abbrev pub LineEnters : ℕ → List Customer → Reading → Result Bool Cause → List Customer → Type 0
-LineEnters places cs (Err f) r cs' = (r ≡ Err (Line f)) × (cs' ≡ cs)
-LineEnters places cs (Ok (header t c)) r cs' = (r ≡ Err (Page HeaderPlace)) × (cs' ≡ cs)
-LineEnters places cs (Ok (customer name f)) r cs' = Answered (λ a. Enters places cs f a cs') true r
-LineEnters places cs (Ok (cost number p cents)) r cs' = (r ≡ Ok false) × (cs' ≡ cs)
-LineEnters places cs (Ok (grant number load)) r cs' = (r ≡ Ok false) × (cs' ≡ cs)
-LineEnters places cs (Ok (transfer giver receiver load)) r cs' = (r ≡ Ok false) × (cs' ≡ cs)
-
--- What lines that are left read as.
-abbrev pub readings : Lines → List Reading
-readings lines = map line_of (parts_after 10 lines.rest)
-
--- The outcome of lines that take customers in.
-abbrev pub taken : Result Lines Fault → List Customer → Result Taken Fault
-taken (Ok lines) cs = Ok (record { customers = cs; number = lines.number; rest = readings lines })
-taken (Err f) cs = Err f
-
 -- The first line, by what it reads as: a header's loads.
 abbrev pub Heads : Reading → Result Header Cause → Type 0
 Heads (Err f) r = r ≡ Err (Line f)
@@ -106,14 +78,6 @@ is_ended page = slice_index page (length page - 1) == 10
 
 abbrev pub page_lines : List ℕ → List (List ℕ)
 page_lines page = parted 10 (take (length page - 1) page)
-
--- A page without its last byte, or why it is refused.
-abbrev pub Bodies : List ℕ → Result (Bor (List ℕ)) Refusal → Type 0
-Bodies page (Ok body) = (length page ≤ 65536) × (is_ended page ≡ true) × (body.now ≡ take (length page - 1) page)
-Bodies page (Err TooLong) = 65536 < length page
-Bodies page (Err Unended) = (length page ≤ 65536) × (is_ended page ≡ false)
-Bodies page (Err HeaderPlace) = ⊥
-Bodies page (Err LateCustomer) = ⊥
 
 -- An intake over a divider and a header.
 abbrev pub intake_of : {D : Type 0} → D → Header → Intake D
@@ -140,29 +104,6 @@ module _ {D : Type 0} where
     acts : {b b' : OpenBook D} {cs cs' : List Customer} {ls ls' : List CostLine} {n : ℕ} {c : Contents} {rs : List Reading} {r : Result (Open D) Fault} → Acts places b cs ls c (Ok tt) b' cs' ls' → Plays places b' cs' ls' (n + 1) rs r → Plays places b cs ls n (Ok c ∷ rs) r
     refused : {b b' : OpenBook D} {cs cs' : List Customer} {ls ls' : List CostLine} {n : ℕ} {c : Contents} {rs : List Reading} {e : book.Refusal} → Acts places b cs ls c (Err e) b' cs' ls' → Plays places b cs ls n (Ok c ∷ rs) (Err (at_line n (Book e)))
 
-  -- What a line does, by what it reads as; a line that is not read, or that stands in the wrong place, does nothing.
-  pub record Nothing (cause : Cause) (r : Result (Unit {0}) Cause) (b b' : OpenBook D) (cs cs' : List Customer) (ls ls' : List CostLine) : Type 0 where
-    pub answer : r ≡ Err cause
-    pub book : b' ≡ b
-    pub customers : cs' ≡ cs
-    pub lines : ls' ≡ ls
-
-  abbrev pub LineActs : ℕ → OpenBook D → List Customer → List CostLine → Reading → Result (Unit {0}) Cause → OpenBook D → List Customer → List CostLine → Type 0
-  LineActs places b cs ls (Err f) r b' cs' ls' = Nothing (Line f) r b b' cs cs' ls ls'
-  LineActs places b cs ls (Ok (header t c)) r b' cs' ls' = Nothing (Page HeaderPlace) r b b' cs cs' ls ls'
-  LineActs places b cs ls (Ok (customer name f)) r b' cs' ls' = Nothing (Page LateCustomer) r b b' cs cs' ls ls'
-  LineActs places b cs ls (Ok (cost number p cents)) r b' cs' ls' =
-      Answered (λ a. Acts places b cs ls (cost number p cents) a b' cs' ls') tt r
-  LineActs places b cs ls (Ok (grant number load)) r b' cs' ls' =
-      Answered (λ a. Acts places b cs ls (grant number load) a b' cs' ls') tt r
-  LineActs places b cs ls (Ok (transfer giver receiver load)) r b' cs' ls' =
-      Answered (λ a. Acts places b cs ls (transfer giver receiver load) a b' cs' ls') tt r
-
-  -- The outcome of lines that act: where they leave the book, or the fault.
-  abbrev pub outcome : Result ℕ Fault → OpenBook D → List Customer → List CostLine → Result (Open D) Fault
-  outcome (Ok n) b cs ls = Ok (record { book = b; customers = cs; lines = ls })
-  outcome (Err f) b cs ls = Err f
-
 module _ {D : Type 0} (m : D → Meaning) where
   -- Sheets of 512 places each.
   pub data FoundsOn (intake : Intake D) (cs : List Customer) (r : Result (OpenBook D) (Intake D × book.Refusal)) (cs' : List Customer) : Type 0 where
@@ -188,6 +129,7 @@ module _ {D : Type 0} (m : D → Meaning) where
 
   -- The lines after the header, where there are so many places for customers and for cost lines:
   -- customers are taken in, the book is founded, the other lines act, and at the last line it is settled.
+  -- Where a fault ends this before the close, the customers that it leaves are of no further use, and free.
   pub data Leads (places line_places : ℕ) (intake : Intake D) (cs : List Customer) (ch : List ℤ) (rs : List Reading) : Result (ClosedBook D) Fault → List Customer → List ℤ → Type 0 where
     untaken : {f : Fault} {cs' : List Customer} → Takes places cs 2 rs (Err f) → Leads places line_places intake cs ch rs (Err f) cs' ch
     unfounded : {t : Taken} {back : Intake D × book.Refusal} {cs' : List Customer} → Takes places cs 2 rs (Ok t) → FoundsOn intake t.customers (Err back) cs' → Leads places line_places intake cs ch rs (Err (at_line (founding_line t) (Book back.1))) cs' ch

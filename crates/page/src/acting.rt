@@ -6,7 +6,8 @@ ghost use Rattle.register.specs.Register.{room, records};
 ghost use Rattle.book.specs.Lines.{Posts};
 ghost use Rattle.book.specs.Marks.{Grants};
 ghost use Rattle.lines.specs.Lines.{line_of};
-ghost use Rattle.page.specs.Pages.{Answered, Moves, LineActs, Plays, readings, outcome};
+ghost use Rattle.page.specs.Pages.{Moves, Plays};
+ghost use Rattle.page.specs.Steps.{Answered, LineActs, readings, outcome};
 
 use crate::fault::{Cause, Fault, Refusal};
 use crate::remaining::Lines;

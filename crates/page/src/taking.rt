@@ -2,7 +2,8 @@
 ghost use Rattle.std.specs.Prelude.{◌≡◌};
 ghost use Rattle.register.specs.Register.{room, records};
 ghost use Rattle.lines.specs.Lines.{line_of};
-ghost use Rattle.page.specs.Pages.{Heads, LineEnters, Takes, readings, taken};
+ghost use Rattle.page.specs.Pages.{Heads, Takes};
+ghost use Rattle.page.specs.Steps.{LineEnters, readings, taken};
 
 use crate::fault::{Cause, Fault, Refusal};
 use crate::remaining::Lines;

@@ -3,7 +3,8 @@ ghost use Rattle.std.specs.Prelude.{◌≡◌, ◌≤◌, [], map, length, repli
 ghost use Rattle.register.specs.Register.{room, records};
 ghost use Rattle.rows.specs.Rows.{parts_after};
 ghost use Rattle.lines.specs.Lines.{line_of};
-ghost use Rattle.page.specs.Pages.{Bodies, Leads, ComesTo};
+ghost use Rattle.page.specs.Pages.{Leads, ComesTo};
+ghost use Rattle.page.specs.Steps.{Bodies};
 ghost use Rattle.page.specs.Billed.{closed_as, RestBlank};
 ghost use Rattle.page.specs.Sums.{PageAddsUp};
 

@@ -1,5 +1,5 @@
 -- Runs of a book, and what holds after every one of them.
-use Rattle.std.specs.Prelude.{◌≡◌, ℕ, ◌+◌, ◌*◌, ◌<◌, ◌≤◌, List, [], ◌∷◌, map, length, get_or, ℤ, pos, ◌+ℤ◌, ◌-ℤ◌, ◌*ℤ◌, Some, Ok, Err, fold, sum_by, Result, ◌≢◌, slice_index_or}
+use Rattle.std.specs.Prelude.{◌≡◌, ℕ, ◌+◌, ◌*◌, ◌<◌, ◌≤◌, List, [], ◌∷◌, map, length, get_or, ℤ, pos, ◌+ℤ◌, ◌-ℤ◌, ◌*ℤ◌, Some, Ok, Err, fold, sum_by, Result, ◌≢◌}
 use Rattle.std.specs.List.{AllByRecursion}
 use Rattle.divider.specs.Questions.{Passes}
 use Rattle.divider.specs.Shares.{Fair}
@@ -94,8 +94,8 @@ charges_in p n charges = part charges (order p * n) n
 -- cost × weight / sum of weights, and 0 where the cost is 0.
 pub record Paid (p : Pool) (cost : ℤ) (cs : List Customer) (charges : List ℤ) : Type 0 where
   pub adds_up : sumℤ (charges_in p (length cs) charges) ≡ cost
-  pub none : cost ≡ pos 0 → (k : ℕ) → k < length cs → slice_index_or (charges_in p (length cs) charges) k (pos 0) ≡ pos 0
-  pub near : (cost ≡ pos 0 → ⊥) → (k : ℕ) → k < length cs → WithinOne (slice_index_or (charges_in p (length cs) charges) k (pos 0)) (cost *ℤ pos (pool_weight p (slice_index_or cs k nobody))) (sum_by (pool_weight p) cs)
+  pub none : cost ≡ pos 0 → (k : ℕ) → k < length cs → get_or (charges_in p (length cs) charges) k (pos 0) ≡ pos 0
+  pub near : (cost ≡ pos 0 → ⊥) → (k : ℕ) → k < length cs → WithinOne (get_or (charges_in p (length cs) charges) k (pos 0)) (cost *ℤ pos (pool_weight p (get_or cs k nobody))) (sum_by (pool_weight p) cs)
 
 -- All charges of the sheet's four parts.
 abbrev pub all_charges : ℕ → List ℤ → ℤ

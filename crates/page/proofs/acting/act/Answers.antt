@@ -3,7 +3,8 @@ use Rattle.register.specs.Register.{room, records}
 use Rattle.lines.specs.Lines.{contents, cost, grant, transfer}
 use Rattle.book.specs.Lines.{Posts}
 use Rattle.book.specs.Marks.{Grants}
-use Rattle.page.specs.Pages.{Moves, Acts, posts, grants, transfers, LineActs}
+use Rattle.page.specs.Pages.{Moves, Acts, posts, grants, transfers}
+use Rattle.page.specs.Steps.{LineActs}
 use Rattle.page.proofs.Answering.{answered_by}
 use Rattle.page.proofs.acting.act.Goals as goal
 

@@ -1,7 +1,8 @@
 use Rattle.std.proofs.Common.{◌≡◌, ◌+◌, length, Result}
 use Rattle.register.specs.Register.{room, records}
 use Rattle.page.specs.declared.fault.Fault.{Fault}
-use Rattle.page.specs.Pages.{Open, Plays, readings}
+use Rattle.page.specs.Pages.{Open, Plays}
+use Rattle.page.specs.Steps.{readings}
 use Rattle.page.proofs.acting.act_all.Given as goal
 
 -- What the lines left come to, all lines come to, and their numbers follow on the last.

@@ -2,7 +2,8 @@ use Rattle.std.proofs.Common.{◌≡◌, length, Result}
 use Rattle.register.specs.Register.{room, records}
 use Rattle.rows.specs.Rows.{parts_after}
 use Rattle.page.specs.declared.fault.Fault.{Fault}
-use Rattle.page.specs.Pages.{Taken, Takes, readings}
+use Rattle.page.specs.Pages.{Taken, Takes}
+use Rattle.page.specs.Steps.{readings}
 use Rattle.page.proofs.taking.enter_all.Given as goal
 
 -- What the lines left come to, all lines come to.

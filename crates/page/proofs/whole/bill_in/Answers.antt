@@ -16,7 +16,8 @@ use Rattle.page.specs.declared.fault.Cause.TheVariants.{Page}
 use Rattle.page.specs.declared.fault.Fault.{Fault}
 use Rattle.page.specs.declared.fault.Refusal.{Refusal}
 use Rattle.page.specs.declared.fault.Refusal.TheVariants.{TooLong, Unended, HeaderPlace, LateCustomer}
-use Rattle.page.specs.Pages.{Reading, at_line, intake_of, Leads, Bodies, Heads, page_lines, ComesTo, too_long, not_ended, headless, faulted, billed_page}
+use Rattle.page.specs.Pages.{Reading, at_line, intake_of, Leads, Heads, page_lines, ComesTo, too_long, not_ended, headless, faulted, billed_page}
+use Rattle.page.specs.Steps.{Bodies}
 use Rattle.page.proofs.Telling.{still_ok, told_as}
 use Rattle.page.proofs.whole.bill_in.Goals as goal
 
