@@ -2,13 +2,12 @@
 //! standard output, and a sentence for people on standard error.
 #![tactic(auto)]
 
+mod answering;
 mod reading;
 mod sentence;
 
+pub use answering::answer_page;
 use divider::Divider;
-use printing::{ROOM, print_page};
-use sentence::Sentence;
-use std::io::Write;
 use std::process::ExitCode;
 use std::{env, io};
 
@@ -28,37 +27,22 @@ fn asks_help(rt: &HostRuntime) -> io::Result<bool> {
     Ok(first.is_some_and(|word| word.as_str() == "--help"))
 }
 
-// Answers the page on standard input, in memory that it is lent.
-fn answer_in<D: Divider + Drop>(
-    rt: &HostRuntime,
-    divider: D,
-    name: &str,
-    memory: &mut [u8],
-    buffer: &mut [u8; ROOM],
-) -> io::Result<ExitCode> {
-    let length = reading::read_page(rt, memory)?;
-    let page = &memory[..length];
-    let printed = print_page(divider, page, buffer);
-    rt.stdout().write_all(&buffer[..printed.length])?;
-    let Some(fault) = printed.fault else {
-        return Ok(ExitCode::SUCCESS);
-    };
-    eprintln!(rt; "{name}: {}", Sentence { page, fault })?;
-    Ok(ExitCode::FAILURE)
-}
-
-// Answers the page on standard input.
-fn answer<D: Divider + Drop>(rt: &HostRuntime, divider: D, name: &str) -> io::Result<ExitCode> {
-    // Fixed memory and no Vec: what a page takes at most is known, and can't run
-    // out. One byte more than a page may have shows that one is too long.
-    answer_in(rt, divider, name, &mut [0; 65_537], &mut [0; ROOM])
-}
-
 /// Runs the program of a divider.
 pub fn run<D: Divider + Drop>(rt: &HostRuntime, divider: D, name: &str) -> io::Result<ExitCode> {
     if asks_help(rt)? {
         eprintln!(rt; "usage: {name} < PAGE\n\n{name} {USAGE}")?;
         return Ok(ExitCode::SUCCESS);
     }
-    answer(rt, divider, name)
+    let fault = answer_page(
+        divider,
+        name,
+        &mut rt.stdin(),
+        &mut rt.stdout(),
+        &mut rt.stderr(),
+    )?;
+    Ok(if fault.is_none() {
+        ExitCode::SUCCESS
+    } else {
+        ExitCode::FAILURE
+    })
 }
