@@ -144,3 +144,7 @@ module _ {D : Type 0} (m : D → Meaning) where
     headless : {first : List ℕ} {rest : List (List ℕ)} {cause : Cause} → length page ≤ 65536 → is_ended page ≡ true → page_lines page ≡ first ∷ rest → Heads (line_of first) (Err cause) → ComesTo d page (Err (at_line 1 cause))
     faulted : {first : List ℕ} {rest : List (List ℕ)} {h : Header} {f : Fault} {cs : List Customer} {ch : List ℤ} → length page ≤ 65536 → is_ended page ≡ true → page_lines page ≡ first ∷ rest → Heads (line_of first) (Ok h) → Leads 512 512 (intake_of d h) [] (replicate 2048 (pos 0)) (map line_of rest) (Err f) cs ch → ComesTo d page (Err f)
     billed_page : {first : List ℕ} {rest : List (List ℕ)} {h : Header} {b : ClosedBook D} {cs : List Customer} {ch : List ℤ} → length page ≤ 65536 → is_ended page ≡ true → page_lines page ≡ first ∷ rest → Heads (line_of first) (Ok h) → Leads 512 512 (intake_of d h) [] (replicate 2048 (pos 0)) (map line_of rest) (Ok b) cs ch → ComesTo d page (Ok (record { book = b; customers = cs; charges = ch }))
+
+  -- An outcome is the only one that a page comes to.
+  abbrev pub OnlyOutcome : D → List ℕ → Result (Closed D) Fault → Type 0
+  OnlyOutcome d page o = (o' : Result (Closed D) Fault) → ComesTo d page o' → o' ≡ o

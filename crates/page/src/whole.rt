@@ -3,7 +3,7 @@ ghost use Rattle.std.specs.Prelude.{◌≡◌, ◌≤◌, [], map, length, repli
 ghost use Rattle.register.specs.Register.{room, records};
 ghost use Rattle.rows.specs.Rows.{parts_after};
 ghost use Rattle.lines.specs.Lines.{line_of};
-ghost use Rattle.page.specs.Pages.{Leads, ComesTo};
+ghost use Rattle.page.specs.Pages.{Leads, ComesTo, OnlyOutcome};
 ghost use Rattle.page.specs.Steps.{Bodies};
 ghost use Rattle.page.specs.Billed.{closed_as, RestBlank};
 ghost use Rattle.page.specs.Sums.{PageAddsUp};
@@ -106,6 +106,7 @@ fn bill_in<D: Divider + Drop>(
 /// capability, and the charges in each pool to its cost.
 pub fn bill_page<D: Divider + Drop>(divider: D, page: &[u8]) -> Result<Billed<D>, Fault>
     ensures comes { ComesTo D.Divider.meaning divider page.now (closed_as result) }
+    ensures only { OnlyOutcome D.Divider.meaning divider page.now (closed_as result) }
     ensures rest { RestBlank result }
     ensures sums { PageAddsUp page.now (closed_as result) }
 {

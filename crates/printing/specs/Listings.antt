@@ -13,7 +13,7 @@ use Rattle.listing.specs.Listing.{charge_at, customer_row, sum_row}
 use Rattle.runs.specs.Runs.{sumℤ}
 use Rattle.page.specs.declared.fault.Fault.{Fault}
 use Rattle.page.specs.Answers.{fault_row}
-use Rattle.page.specs.Pages.{Reading, Closed, page_lines, ComesTo}
+use Rattle.page.specs.Pages.{Reading, Closed, page_lines, ComesTo, OnlyOutcome}
 use Rattle.page.specs.Sums.{founding_total, capability, grant_in}
 use Rattle.printing.specs.declared.printed.Printed.{Printed}
 
@@ -76,6 +76,7 @@ module _ {D : Type 0} where
   pub record Prints (m : D → Meaning) (d : D) (page buffer : List ℕ) (r : Printed) (buffer' : List ℕ) : Type 0 where
     pub outcome : Result (Closed D) Fault
     pub comes : ComesTo m d page outcome
+    pub only : OnlyOutcome m d page outcome
     pub adds_up : ListingAddsUp page outcome
     pub fault : r.fault ≡ fault_of outcome
     pub count : r.length ≡ length (text page outcome)

@@ -12,6 +12,7 @@ returns-in-Ok-clause-prints g c =
     record {
       outcome = Ok (closed_of c.in-Ok.billed);
       comes = c.in-Ok.ensures.comes;
+      only = c.in-Ok.ensures.only;
       adds_up = comes_adds_up g.D.Divider.meaning g.met.D.Divider.fair c.args.divider c.args.page.now (Ok (closed_of c.in-Ok.billed)) c.in-Ok.ensures.comes;
       fault = refl;
       count = c.write_listing.ensures.count;
@@ -23,6 +24,7 @@ returns-in-Err-clause-prints g c =
     record {
       outcome = Err c.in-Err.fault;
       comes = c.in-Err.ensures.comes;
+      only = c.in-Err.ensures.only;
       adds_up = tt;
       fault = refl;
       count = c.write_fault.ensures.count;
