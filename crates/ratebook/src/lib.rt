@@ -2,14 +2,20 @@
 //! standard output, and a sentence for people on standard error.
 #![tactic(auto)]
 
+ghost use Rattle.std.specs.Prelude.{◌≡◌, true, false, IfOk, IfSome};
+ghost use Rattle.std.specs.Io.KnownBytes.{Keeps};
+ghost use Rattle.std.specs.Process.{exit_status};
+ghost use Rattle.ratebook.specs.Answers.{Answers, asks_help};
+
 mod answering;
 mod reading;
 mod sentence;
 
-pub use answering::answer_page;
+use answering::answer_page;
 use divider::Divider;
+use std::io;
+use std::io::{Read, Write};
 use std::process::ExitCode;
-use std::{env, io};
 
 const USAGE: &str = "reads a page of lines from standard input, and prints its listing
 
@@ -21,28 +27,30 @@ that is refused gives one row, F,layer,line,field,number, and status 1.
 
 example: ratebook-largest < examples/worked.page";
 
-// Whether the first word asks for help.
-fn asks_help(rt: &HostRuntime) -> io::Result<bool> {
-    let first = env::args(rt)?.nth(1);
-    Ok(first.is_some_and(|word| word.as_str() == "--help"))
+// Whether a word asks for help.
+fn asks_help(word: Option<&str>) -> bool
+    ensures { result ≡ asks_help word.entry }
+{
+    word.is_some_and(|word| word == "--help")
 }
 
-/// Runs the program of a divider.
-pub fn run<D: Divider + Drop>(rt: &HostRuntime, divider: D, name: &str) -> io::Result<ExitCode> {
-    if asks_help(rt)? {
-        eprintln!(rt; "usage: {name} < PAGE\n\n{name} {USAGE}")?;
+/// Runs the program of a divider, by the first word after its name: tells how to use
+/// it, or reads a page to its end and writes what is printed for it. The status is
+/// that of what the page comes to.
+pub fn run<D: Divider + Drop, R: Read, W: Write, E: Write>(
+    divider: D,
+    name: &str,
+    word: Option<&str>,
+    input: &mut R,
+    output: &mut W,
+    errors: &mut E,
+) -> io::Result<ExitCode>
+    ensures helps { asks_help word.entry ≡ true → IfOk result (λ code. (exit_status code ≡ 0) × Keeps (W.Write.contents output.old) (W.Write.contents output.new)) }
+    ensures answers { asks_help word.entry ≡ false → IfOk result (λ code. IfSome (R.Read.remaining input.old) (λ page. Answers D.Divider.meaning divider (W.Write.contents output.old) (W.Write.contents output.new) (E.Write.contents errors.old) (E.Write.contents errors.new) (exit_status code) page)) }
+{
+    if asks_help(word) {
+        writeln!(errors, "usage: {name} < PAGE\n\n{name} {USAGE}")?;
         return Ok(ExitCode::SUCCESS);
     }
-    let fault = answer_page(
-        divider,
-        name,
-        &mut rt.stdin(),
-        &mut rt.stdout(),
-        &mut rt.stderr(),
-    )?;
-    Ok(if fault.is_none() {
-        ExitCode::SUCCESS
-    } else {
-        ExitCode::FAILURE
-    })
+    answer_page(divider, name, input, output, errors)
 }

@@ -2,9 +2,17 @@
 #![tactic(auto)]
 
 use largest::LargestRemainder;
-use std::io;
 use std::process::ExitCode;
+use std::{env, io};
 
 fn main(rt: HostRuntime) -> io::Result<ExitCode> {
-    ratebook::run(&rt, LargestRemainder, "ratebook-largest")
+    let word = env::args(&rt)?.nth(1);
+    ratebook::run(
+        LargestRemainder,
+        "ratebook-largest",
+        word.as_deref(),
+        &mut rt.stdin(),
+        &mut rt.stdout(),
+        &mut rt.stderr(),
+    )
 }

@@ -2,9 +2,17 @@
 #![tactic(auto)]
 
 use running::RunningSums;
-use std::io;
 use std::process::ExitCode;
+use std::{env, io};
 
 fn main(rt: HostRuntime) -> io::Result<ExitCode> {
-    ratebook::run(&rt, RunningSums, "ratebook-running")
+    let word = env::args(&rt)?.nth(1);
+    ratebook::run(
+        RunningSums,
+        "ratebook-running",
+        word.as_deref(),
+        &mut rt.stdin(),
+        &mut rt.stdout(),
+        &mut rt.stderr(),
+    )
 }
