@@ -85,15 +85,15 @@ paired None q = None
 paired (Some p) None = None
 paired (Some p) (Some q) = cond (order p == order q) None (Some (entry.Shift p q))
 
-abbrev pub expense_of : Option Pool → Option Entry
-expense_of None = None
-expense_of (Some p) = Some (entry.Expense p)
+abbrev pub expense_entry : Option Pool → Option Entry
+expense_entry None = None
+expense_entry (Some p) = Some (entry.Expense p)
 
-abbrev pub credited : Option Pool → Option Entry
-credited None = None
-credited (Some p) = Some (entry.Credit p)
+abbrev pub credit_entry : Option Pool → Option Entry
+credit_entry None = None
+credit_entry (Some p) = Some (entry.Credit p)
 
 abbrev pub entry_of : Posting → Option Entry
-entry_of (Expense p) = expense_of (pool_of p)
-entry_of (Credit p) = credited (pool_of p)
+entry_of (Expense p) = expense_entry (pool_of p)
+entry_of (Credit p) = credit_entry (pool_of p)
 entry_of (Shift p q) = paired (pool_of p) (pool_of q)

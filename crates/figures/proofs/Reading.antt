@@ -14,7 +14,7 @@ use Rattle.std.proofs.lemmas.List.Folds.{list_all_at}
 use Rattle.std.proofs.lemmas.List.Sums.{list_all-from_AllPass}
 use Rattle.figures.specs.declared.refusal.Refusal.{Refusal}
 use Rattle.figures.specs.declared.refusal.Refusal.TheVariants.{NotAFigure, OutOfRange}
-use Rattle.figures.specs.Figure.{spelled, figure, fitting, appended}
+use Rattle.figures.specs.Figure.{is_figure, figure, fitting, appended}
 
 digit_is : (c : ℕ) → is_ascii_digit c ≡ true → digit_value c ≡ c - 48
 digit_is c e = grind (arith, nat_tests)
@@ -45,13 +45,13 @@ tested (b ∷ bs) = ap (λ t. is_ascii_digit b && t) (tested bs)
 pub no_figure : (bs : List ℕ) → Any (λ b. is_ascii_digit b ≡ false) bs → Err NotAFigure ≡ figure bs
 no_figure bs h =
     let a = tested bs ∙ list_all_at is_ascii_digit bs h.0 h.1 h.2 (ap is_ascii_digit h.3 ∙ h.4) in
-    let s : spelled bs ≡ false = and_right _ (all_ascii_digits bs) a in
+    let s : is_figure bs ≡ false = and_right _ (all_ascii_digits bs) a in
     rw s refl
 
 own : IsNumeralModel (λ ds. all_ascii_digits ds ≡ true) (digits_value 10)
 own = numerals_by_value (λ ds. all_ascii_digits ds ≡ true) tells_all_ascii_digits
 
--- `spelled`, where the bytes are some, and the first is no 0 unless it is the only one
+-- `is_figure`, where the bytes are some, and the first is no 0 unless it is the only one
 spelled_is : (n c : ℕ) (b : Bool) → 0 < n → (c ≡ 48 → n ≡ 1) → (nat_lt 0 n && not (c == 48 && nat_lt 1 n) && b) ≡ b
 spelled_is n c b some first = grind (arith, nat_tests)
 

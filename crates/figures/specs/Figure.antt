@@ -11,13 +11,13 @@ number NotAFigure = 5
 number OutOfRange = 6
 
 -- One or more digits, the first no 0 unless it is the only one.
-abbrev pub spelled : List ℕ → Bool
-spelled bytes = nat_lt 0 (length bytes) && not (slice_index bytes 0 == 48 && nat_lt 1 (length bytes)) && all_ascii_digits bytes
+abbrev pub is_figure : List ℕ → Bool
+is_figure bytes = nat_lt 0 (length bytes) && not (slice_index bytes 0 == 48 && nat_lt 1 (length bytes)) && all_ascii_digits bytes
 
 -- The number that the bytes spell, or the first question that fails.
 abbrev pub figure : List ℕ → Result ℕ Refusal
 figure bytes =
-    cond (spelled bytes) (cond (nat_lt (digits_value 10 bytes) (2 ^ 64)) (Ok (digits_value 10 bytes)) (Err OutOfRange)) (Err NotAFigure)
+    cond (is_figure bytes) (cond (nat_lt (digits_value 10 bytes) (2 ^ 64)) (Ok (digits_value 10 bytes)) (Err OutOfRange)) (Err NotAFigure)
 
 -- A number that fits 64 bits.
 abbrev pub fitting : ℕ → Option ℕ

@@ -1,5 +1,5 @@
 -- The shares by largest remainder.
-use Rattle.std.specs.Prelude.{ℕ, ◌+◌, ◌-◌, cond, ltb, List, map, length, take, sum_by, sum, count_by, nat_eq, nat_lt, slice_index}
+use Rattle.std.specs.Prelude.{ℕ, ◌+◌, ◌-◌, cond, List, map, length, take, sum_by, sum, count_by, nat_eq, nat_lt, slice_index}
 use Rattle.std.specs.List.{range_with_len}
 use Rattle.divider.specs.Shares.{whole, rest}
 
@@ -9,7 +9,7 @@ left_over total all weights = total - sum_by (whole total all) weights
 
 -- How many remainders are above a number, and how many equal it.
 abbrev pub above : ℕ → ℕ → ℕ → List ℕ → ℕ
-above total all a weights = count_by (λ w. ltb a (rest total all w)) weights
+above total all a weights = count_by (λ w. nat_lt a (rest total all w)) weights
 
 abbrev pub level : ℕ → ℕ → ℕ → List ℕ → ℕ
 level total all a weights = count_by (λ w. nat_eq (rest total all w) a) weights

@@ -4,7 +4,8 @@
 //! part and remainder packed into one number, remainder × unit + whole part,
 //! where the unit is a power of two above the total. The smallest remainder
 //! that is served is found by bisection, so that a division takes one
-//! division for each weight and at most log2 (sum) passes over the sheet.
+//! division for each weight, at most log2 (sum), rounded up, passes over the
+//! sheet that only compare, and three more passes.
 #![tactic(auto)]
 
 ghost use Rattle.largest.specs.Largest.{by_remainders};

@@ -15,7 +15,7 @@ use Rattle.std.proofs.lemmas.Bool.Decides.{nat_tests}
 use Rattle.units.specs.Ranges.{none, range, in_range, table, row}
 use Rattle.units.specs.declared.ranges.Letter.{Letter}
 use Rattle.units.specs.declared.ranges.Letter.TheVariants.{Header, Customer, Expense, Credit, Shift, Grant, Transfer}
-use Rattle.figures.specs.Figure.{spelled as a_figure, figure}
+use Rattle.figures.specs.Figure.{is_figure as a_figure, figure}
 use Rattle.figures.specs.declared.refusal.Refusal as figures
 use Rattle.records.specs.Pools.{pool_of}
 use Rattle.rows.specs.Rows.{spelled}

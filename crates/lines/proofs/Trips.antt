@@ -13,7 +13,7 @@ use Rattle.std.proofs.lemmas.Bool.Decides.{nat_tests}
 use Rattle.units.specs.Ranges.{in_range}
 use Rattle.units.specs.declared.ranges.Letter.{Letter}
 use Rattle.units.specs.declared.ranges.Letter.TheVariants.{Header, Customer, Expense, Credit, Shift, Grant, Transfer}
-use Rattle.figures.specs.Figure.{spelled as a_figure}
+use Rattle.figures.specs.Figure.{is_figure as a_figure}
 use Rattle.records.specs.Pools.{pool_of}
 use Rattle.book.specs.declared.figures.Posting.{Posting}
 use Rattle.book.specs.declared.figures.Posting.TheVariants as posting

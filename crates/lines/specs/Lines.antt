@@ -1,6 +1,5 @@
 -- Lines by their contents: how they are read, and how they are written.
-use Rattle.std.specs.Prelude.{◌≡◌, ℕ, ◌-◌, Bool, true, cond, ◌&&◌, List, [], ◌∷◌, ◌++◌, length, take, drop, is_ok, Some, None, Ok, Err, decimal, Option, Result, ◌==◌, nat_le, slice_index}
-use Rattle.std.proofs.Math.Utf8.{encode}
+use Rattle.std.specs.Prelude.{◌≡◌, ℕ, ◌-◌, Bool, true, cond, ◌&&◌, List, [], ◌∷◌, ◌++◌, length, take, drop, is_ok, Some, None, Ok, Err, decimal, Option, Result, ◌==◌, encode_utf8, nat_le, slice_index}
 use Rattle.std.specs.Str.Parse.{digits_value}
 use Rattle.units.specs.Ranges.{in_range}
 use Rattle.units.specs.declared.ranges.Letter.{Letter}
@@ -47,9 +46,9 @@ letter (transfer giver receiver load) = Transfer
 
 -- The letters of the pools of a cost line.
 abbrev pub pools : Posting → List (List ℕ) → List (List ℕ)
-pools (posting.Expense p) rest = encode p ∷ rest
-pools (posting.Credit p) rest = encode p ∷ rest
-pools (posting.Shift p q) rest = encode p ∷ encode q ∷ rest
+pools (posting.Expense p) rest = encode_utf8 p ∷ rest
+pools (posting.Credit p) rest = encode_utf8 p ∷ rest
+pools (posting.Shift p q) rest = encode_utf8 p ∷ encode_utf8 q ∷ rest
 
 -- The fields after the letter.
 abbrev pub held : Contents → List (List ℕ)

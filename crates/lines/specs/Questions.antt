@@ -3,7 +3,7 @@ use Rattle.std.specs.Prelude.{◌≡◌, ℕ, zero, suc, ◌+◌, ◌^◌, ◌<�
 use Rattle.std.specs.Str.Parse.{digits_value}
 use Rattle.units.specs.Ranges.{in_range}
 use Rattle.units.specs.declared.ranges.Letter.{Letter}
-use Rattle.figures.specs.Figure.{spelled as a_figure}
+use Rattle.figures.specs.Figure.{is_figure as a_figure}
 use Rattle.records.specs.Pools.{pool_of}
 use Rattle.rows.specs.declared.field.Field.{Field}
 use Rattle.rows.specs.declared.field.Field.TheVariants as held

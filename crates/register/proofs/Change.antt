@@ -12,10 +12,6 @@ use Rattle.register.specs.Register.{memory, room, count, records, laid, Kept}
 use Rattle.register.specs.declared.Keyed.{Ghosts}
 use Rattle.register.specs.declared.Register.{Register}
 
-pub none_there : {R : Type 0} (o : Option R) → is_some o ≡ false → o ≡ None
-none_there None h = refl
-none_there (Some x) h = grind arith
-
 module _ {R : Type 0} {k : Ghosts R} where
   pub length-records : (reg : Register R k) → length (records reg) ≡ count reg
   length-records reg = omega (arith, length-take (count reg) (memory reg))

@@ -1,7 +1,6 @@
 -- Rows of text.
-use Rattle.std.specs.Prelude.{◌≡◌, ℕ, cond, List, [], ◌∷◌, ◌++◌, map, length, drop, Some, None, decimal, Option, ◌==◌, nat_le, nat_lt}
+use Rattle.std.specs.Prelude.{◌≡◌, ℕ, cond, List, [], ◌∷◌, ◌++◌, map, length, drop, Some, None, decimal, Option, ◌==◌, encode_utf8, nat_le, nat_lt}
 use Rattle.std.specs.Borrow.{Bor}
-use Rattle.std.proofs.Math.Utf8.{encode}
 use Rattle.rows.specs.declared.field.Field.{Field}
 use Rattle.rows.specs.declared.field.Field.TheVariants.{Text, Letter, Figure, Minus}
 
@@ -41,7 +40,7 @@ joined (f ∷ fs) = f ++ trailing fs
 -- The bytes of a field.
 abbrev pub spelled : Field → List ℕ
 spelled (Text bytes) = bytes.now
-spelled (Letter c) = encode c
+spelled (Letter c) = encode_utf8 c
 spelled (Figure n) = decimal n
 spelled (Minus n) = 45 ∷ decimal n
 

@@ -13,7 +13,7 @@ use Rattle.book.specs.declared.stages.ClosedBook.{ClosedBook}
 use Rattle.book.specs.Sides.{cost}
 use Rattle.book.specs.Rates.{Meaning, Founds}
 use Rattle.runs.specs.History.{Event, closing, refusal, grants, lines_of, bill_of, cost_by, Billed}
-use Rattle.runs.specs.Runs.{AlwaysSound, Stage, open_book, shut_book, World, at, Step, grant, lift, land, return, post, strike, stay, close, bill, Run, start, next, held, on_the_way, Rated, Paid, Closing, Reconciling, LawfulMeaning, Entered, StaysReconciled, BooksStaySound}
+use Rattle.runs.specs.Runs.{AlwaysSound, Stage, open_book, closed_book, World, at, Step, grant, lift, land, return, post, strike, stay, close, bill, Run, start, next, held, on_the_way, Rated, Paid, Closing, Reconciling, LawfulMeaning, Entered, StaysReconciled, BooksStaySound}
 use Rattle.runs.proofs.Founding.{Starts, found_starts}
 use Rattle.runs.proofs.Marks.{MarksKept, same_marks, grant_keeps, grant_unspoiled, lift_keeps, lift_unspoiled, land_keeps, land_unspoiled, return_keeps, return_unspoiled}
 use Rattle.runs.proofs.Lines.{LinesKept, cost_is, none_kept, others_keep, post_keeps, post_unspoiled, strike_keeps, strike_unspoiled}
@@ -53,7 +53,7 @@ module _ {D : Type 0} (m : D → Meaning) (fair : (d : D) → LawfulMeaning (m d
 
     abbrev KeptAt : List Event → Stage D → List Customer → List CostLine → List ℤ → Type 0
     KeptAt es (open_book b) cs ls ch = OpenKept es b cs ls
-    KeptAt es (shut_book c) cs ls ch = ShutKept es c cs ls ch
+    KeptAt es (closed_book c) cs ls ch = ShutKept es c cs ls ch
 
     abbrev Kept : List Event → World D → Type 0
     Kept es w = KeptAt es w.stage w.customers w.lines w.charges
@@ -129,7 +129,7 @@ module _ {D : Type 0} (m : D → Meaning) (fair : (d : D) → LawfulMeaning (m d
 
     settled : (es : List Event) (s : Stage D) (cs : List Customer) (ls : List CostLine) (ch : List ℤ) → KeptAt es s cs ls ch → (held cs + on_the_way cs ≡ total + grants es) × Closing capability es s (at s cs ls ch)
     settled es (open_book b) cs ls ch h = (h.marks.balanced, tt)
-    settled es (shut_book c) cs ls ch h =
+    settled es (closed_book c) cs ls ch h =
         let paid : (p : Pool) → Billed p es → Paid p (cost_by (lines_of es) p) cs ch = λ p billed. paid_by_lines h.lines p (h.paid p billed) in (
           h.marks.balanced,
           record {
@@ -141,7 +141,7 @@ module _ {D : Type 0} (m : D → Meaning) (fair : (d : D) → LawfulMeaning (m d
 
     reconciled : (es : List Event) (s : Stage D) (cs : List Customer) (ls : List CostLine) (ch : List ℤ) → KeptAt es s cs ls ch → Reconciling es s cs
     reconciled es (open_book b) cs ls ch h = tt
-    reconciled es (shut_book c) cs ls ch h = record { arrived = h.arrived; costs = cost_is h.lines }
+    reconciled es (closed_book c) cs ls ch h = record { arrived = h.arrived; costs = cost_is h.lines }
 
   -- a book that was just founded
   founded : {intake : Intake D} {b : OpenBook D} {cs : List Customer} (starts : Starts intake b cs) → OpenKept intake.header.founding_total intake.header.capability starts.some starts.total starts.able [] b cs []

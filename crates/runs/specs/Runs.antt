@@ -27,7 +27,7 @@ use Rattle.runs.specs.History.{Event, granting, lifting, landing, returning, pos
 -- A book at either stage.
 pub data Stage (D : Type 0) : Type 0 where
   open_book : OpenBook D → Stage D
-  shut_book : ClosedBook D → Stage D
+  closed_book : ClosedBook D → Stage D
 
 -- What a call finds: the book, the records of both registers, and the charges sheet.
 pub record World (D : Type 0) : Type 0 where
@@ -49,8 +49,8 @@ module _ {D : Type 0} (m : D → Meaning) where
     post : {b b' : OpenBook D} {cs : List Customer} {places : ℕ} {ls ls' : List CostLine} {ch : List ℤ} {number : ℕ} {p : Posting} {cents : ℕ} {r : Result (Unit {0}) Refusal} → Posts b places ls number p cents r b' ls' → Step (at (open_book b) cs ls ch) (posting number p cents r) (at (open_book b') cs ls' ch)
     strike : {b b' : OpenBook D} {cs : List Customer} {ls ls' : List CostLine} {ch : List ℤ} {number : ℕ} {r : Result (Unit {0}) Refusal} → Strikes b ls number r b' ls' → Step (at (open_book b) cs ls ch) (striking number r) (at (open_book b') cs ls' ch)
     stay : {b b' : OpenBook D} {cs cs' : List Customer} {ls : List CostLine} {ch : List ℤ} {e : Refusal} (ws ss ws' ss' : List ℕ) → Closes m b cs ws ss (Err (b', e)) cs' ws' ss' → Step (at (open_book b) cs ls ch) (staying e) (at (open_book b') cs' ls ch)
-    close : {b : OpenBook D} {c : ClosedBook D} {cs cs' : List Customer} {ls : List CostLine} {ch : List ℤ} (ws ss ws' ss' : List ℕ) → Closes m b cs ws ss (Ok c) cs' ws' ss' → Step (at (open_book b) cs ls ch) closing (at (shut_book c) cs' ls ch)
-    bill : {c : ClosedBook D} {cs : List Customer} {ls : List CostLine} {ch ch' : List ℤ} {letter : ℕ} {r : Result (Unit {0}) Refusal} (ws ss ws' ss' : List ℕ) → Bills m c cs letter ws ss ch r ws' ss' ch' → Step (at (shut_book c) cs ls ch) (billing letter r) (at (shut_book c) cs ls ch')
+    close : {b : OpenBook D} {c : ClosedBook D} {cs cs' : List Customer} {ls : List CostLine} {ch : List ℤ} (ws ss ws' ss' : List ℕ) → Closes m b cs ws ss (Ok c) cs' ws' ss' → Step (at (open_book b) cs ls ch) closing (at (closed_book c) cs' ls ch)
+    bill : {c : ClosedBook D} {cs : List Customer} {ls : List CostLine} {ch ch' : List ℤ} {letter : ℕ} {r : Result (Unit {0}) Refusal} (ws ss ws' ss' : List ℕ) → Bills m c cs letter ws ss ch r ws' ss' ch' → Step (at (closed_book c) cs ls ch) (billing letter r) (at (closed_book c) cs ls ch')
 
   -- The events, the newest first, lead from the first world to the last.
   pub data Run (w : World D) : List Event → World D → Type 0 where
@@ -110,7 +110,7 @@ pub record Settled (capability : ℕ) (es : List Event) (cs : List Customer) (ch
 
 abbrev pub Closing : {D : Type 0} → ℕ → List Event → Stage D → World D → Type 0
 Closing capability es (open_book b) w = Unit {0}
-Closing capability es (shut_book c) w = Settled capability es w.customers w.charges
+Closing capability es (closed_book c) w = Settled capability es w.customers w.charges
 
 -- What holds after a run: marks balance, a closed book is settled, and no call answered 24.
 pub record Sound {D : Type 0} (total capability : ℕ) (es : List Event) (w : World D) : Type 0 where
@@ -130,7 +130,7 @@ pub record Reconciled {D : Type 0} (es : List Event) (c : ClosedBook D) (cs : Li
 
 abbrev pub Reconciling : {D : Type 0} → List Event → Stage D → List Customer → Type 0
 Reconciling es (open_book b) cs = Unit {0}
-Reconciling es (shut_book c) cs = Reconciled es c cs
+Reconciling es (closed_book c) cs = Reconciled es c cs
 
 -- In every run of this book, over these customers and an empty cost register, a closed book is reconciled.
 abbrev pub StaysReconciled : {D : Type 0} → (D → Meaning) → OpenBook D → List Customer → Type 0
