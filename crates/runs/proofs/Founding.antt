@@ -1,14 +1,17 @@
 -- What a founded book's customers keep before the first call of a run.
-use Rattle.std.proofs.Common.{◌≡◌, ℕ, ◌*◌, ◌<◌, ◌≤◌, true, cond, List, [], ◌∷◌, map, length, Some, None, Ok, Err, sum_by, sym, refl, ap, ◌∙◌, mul-le-mul, arith}
+use Rattle.std.proofs.Common.{◌≡◌, ℕ, ◌*◌, ◌<◌, ◌≤◌, true, cond, List, [], ◌∷◌, map, length, get_or, Some, None, Ok, Err, sum_by, sym, refl, ap, ◌∙◌, mul_comm, mul-le-mul, arith}
 use lib.ListN.{length-map}
 use Rattle.std.specs.List.{AllByRecursion}
 use Rattle.std.proofs.ByRecursion.{sum_by_le}
+use Rattle.std.proofs.lemmas.List.{get_or-map}
+use Rattle.std.proofs.lemmas.List.Sums.{sum-map}
 use Rattle.std.proofs.lemmas.Bool.{and_from, le-leb}
 use Rattle.std.proofs.lemmas.Bool.Decides.{nat_tests}
 use Rattle.register.specs.Records.{added}
 use Rattle.register.proofs.Every.{all_added}
 use Rattle.register.proofs.Lookups.{length-added}
 use Rattle.divider.specs.Questions.{limit, Passes}
+use Rattle.divider.specs.Shares.{Near}
 use Rattle.records.specs.declared.customer.Customer.{Customer}
 use Rattle.records.specs.Figures.{founding_weight}
 use Rattle.book.specs.declared.figures.Figures.{Figures}
@@ -17,13 +20,14 @@ use Rattle.book.specs.declared.refusal.Refusal.TheVariants.{Spoiled}
 use Rattle.book.specs.declared.stages.Intake.{Intake}
 use Rattle.book.specs.declared.stages.OpenBook.{OpenBook}
 use Rattle.book.specs.Books.{opened}
-use Rattle.book.specs.Customers.{key, entered, in_ranges, enter_asks, marked, founded_by, with_shares}
+use Rattle.book.specs.Customers.{key, nobody, entered, in_ranges, enter_asks, marked, founded_by, with_shares}
 use Rattle.book.specs.Rates.{Meaning, divisible, passes, found_asks, Founds}
 use Rattle.book.specs.Sides.{no_sides}
-use Rattle.runs.specs.Runs.{Entered, bare, none, used, one_more, LawfulMeaning}
+use Rattle.runs.specs.Runs.{Entered, bare, none, used, one_more, held, Founded, LawfulMeaning}
 use Rattle.runs.proofs.Asked.{first_yes, told_ok, staged_ok, staged_err}
+use Rattle.runs.proofs.Near.{within_one}
 use Rattle.book.proofs.Portions.{length_with}
-use Rattle.runs.proofs.Written.{all_written, sum_by_made, sum_by_zero, divisible_passes}
+use Rattle.runs.proofs.Written.{all_written, sum_by_left, sum_by_made, sum_by_zero, get_or-written, divisible_passes}
 use Rattle.runs.proofs.Marks.{MarksKept, Small, all_shelf, all_finite}
 
 entered_few : {cs : List Customer} → Entered cs → length cs ≤ 512
@@ -108,6 +112,32 @@ module _ {D : Type 0} (m : D → Meaning) (fair : (d : D) → LawfulMeaning (m d
           few = rw is (omega (arith, length_with (λ c s. marked c s 0) shares cs, entered_few e));
           small = rw is (all_written (λ c s. marked c s 0) Small (λ c s h. h) shares cs (entered_small e));
         };
+      }
+
+  -- What it writes are shares within one unit.
+  pub found_marks : {intake : Intake D} {b : OpenBook D} {cs cs' : List Customer} {ws ss ws' ss' : List ℕ} → Founds m intake cs ws ss (Ok b) cs' ws' ss' → Founded intake.header.founding_total cs'
+  found_marks {intake} {b} {cs} {cs'} {ws} {ss} s =
+      let total = intake.header.founding_total in
+      let all = sum_by founding_weight cs in
+      let write : Customer → ℕ → Customer = λ c s. marked c s 0 in
+      let shares = m intake.divider total (map founding_weight cs) in
+      let asks = (staged_ok intake (opened intake) b (found_asks m intake cs ws ss) s.answer).0 in
+      let is : cs' ≡ with_shares write shares cs = s.after ∙ ap (λ o. cond (passes o) (founded_by shares cs) cs) asks in
+      let above : 0 < all = grind (arith, nat_tests) in
+      let law = fair intake.divider total (map founding_weight cs) (found_passes intake cs ws ss asks) in
+      let long : length shares ≡ length cs = law.len ∙ length-map cs founding_weight in
+      let count : length cs' ≡ length cs = ap length is ∙ length_with write shares cs in
+      let weights : sum_by founding_weight cs' ≡ all = ap (sum_by founding_weight) is ∙ sum_by_left write founding_weight (λ c s. refl) shares cs in
+      record {
+        adds_up = ap held is ∙ sum_by_made write (λ c. c.mark) (λ n. n) (λ c s. refl) shares cs long ∙ law.adds_up;
+        near = λ k lt.
+            let c = get_or cs k nobody in
+            let inside : k < length cs = omega arith in
+            let weighs : k < length (map founding_weight cs) = rw length-map inside in
+            let weight = get_or-map founding_weight cs k nobody 0 inside in
+            let here : get_or cs' k nobody ≡ write c (get_or shares k 0) = ap (λ (t : List Customer). get_or t k nobody) is ∙ get_or-written write shares cs k nobody long inside in
+            let near : Near total all (founding_weight c) (get_or shares k 0) = rw (sum-map founding_weight cs, weight) at (law.near k weighs) in
+            rw (here, weights, mul_comm (founding_weight c) total) (within_one total all (founding_weight c) (get_or shares k 0) above near);
       }
 
 -- The founding total times the sum of such weights is far below the limit.

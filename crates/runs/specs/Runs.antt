@@ -7,7 +7,7 @@ use Rattle.records.specs.declared.customer.Customer.{Customer}
 use Rattle.records.specs.declared.cost_line.CostLine.{CostLine}
 use Rattle.records.specs.declared.pool.Pool.{Pool}
 use Rattle.records.specs.declared.pool.Pool.TheVariants.{Composite, NonSlice, Slice, Tier2}
-use Rattle.records.specs.Figures.{pool_weight}
+use Rattle.records.specs.Figures.{founding_weight, pool_weight}
 use Rattle.records.specs.Pools.{order}
 use Rattle.book.specs.declared.figures.Figures.{Figures}
 use Rattle.book.specs.declared.figures.Posting.{Posting}
@@ -77,6 +77,11 @@ on_the_way cs = sum_by (λ c. c.transit) cs
 -- f lies less than one unit from a / s: f × s and a differ by less than s.
 abbrev pub WithinOne : ℤ → ℤ → ℕ → Type 0
 WithinOne f a s = size (f *ℤ pos s -ℤ a) < s
+
+-- The marks that a founding writes add up to the founding total, and each lies less than one unit from its exact share.
+pub record Founded (total : ℕ) (cs : List Customer) : Type 0 where
+  pub adds_up : held cs ≡ total
+  pub near : (k : ℕ) → k < length cs → WithinOne (pos (get_or cs k nobody).mark) (pos (founding_weight (get_or cs k nobody) * total)) (sum_by founding_weight cs)
 
 -- The RHWMs add up to the capability, and each lies less than one unit from its exact share.
 pub record Rated (capability : ℕ) (cs : List Customer) : Type 0 where
