@@ -43,6 +43,10 @@ abbrev pub at_word : Refusal → ℕ → Fault
 at_word unread.NotAFigure word = NotAFigure word
 at_word unread.OutOfRange word = OutOfRange word
 
+-- The first of the words, the total, is a figure: memory is asked for only once it was read.
+abbrev pub FigureFirst : List (List ℕ) → Type 0
+FigureFirst words = (0 < length words) × (is_ok (figure (slice_index_or words 0 [])) ≡ true)
+
 -- The figures that words spell.
 abbrev pub Figures : List (List ℕ) → Result (Vec ℕ Global) Fault → Type 0
 Figures words (Ok found) = words ≡ map decimal (vec_items found)
@@ -51,7 +55,7 @@ Figures words (Err NoTotal) = ⊥
 Figures words (Err (NotAFigure word)) = FirstBad words word unread.NotAFigure
 Figures words (Err (OutOfRange word)) = FirstBad words word unread.OutOfRange
 Figures words (Err (Division e)) = ⊥
-Figures words (Err NoMemory) = Unit {0}
+Figures words (Err NoMemory) = FigureFirst words
 
 -- The words are the name of a rule, a total and weights.
 abbrev pub Asks : List (List ℕ) → Rule → ℕ → List ℕ → Type 0
@@ -69,4 +73,5 @@ Answered words (Err (OutOfRange word)) =
     (rule : Rule) × ((slice_index_or words 0 [] ≡ name rule) × FirstBad (drop 1 words) word unread.OutOfRange)
 Answered words (Err (Division e)) =
     (rule : Rule) × (total : ℕ) × (weights : List ℕ) × (Asks words rule total weights × (asked total weights (length weights) ≡ Some e))
-Answered words (Err NoMemory) = (rule : Rule) × (slice_index_or words 0 [] ≡ name rule)
+Answered words (Err NoMemory) =
+    (rule : Rule) × ((slice_index_or words 0 [] ≡ name rule) × FigureFirst (drop 1 words))
