@@ -1,8 +1,8 @@
 -- A page that is read in part is answered as the whole of it: only one that is too long is.
-use Rattle.std.proofs.Common.{◌≡◌, ℕ, ◌+◌, ◌<◌, ◌≤◌, List, ◌++◌, length, take, drop, None, Some, IfSome, Option, Ok, Err, Result, refl, sym, ap, ◌∙◌, subst, ⊎_elim, arith, append-nil, take_at, length-take-le}
+use Rattle.std.proofs.Common.{◌≡◌, ℕ, ◌+◌, ◌<◌, ◌≤◌, List, ◌++◌, length, take, drop, None, Some, IfSome, Option, Ok, Err, Result, refl, sym, ap, ◌∙◌, subst, ⊎_elim, arith, append-nil, take_at, length-take-le, true, false, is_ok, OnOk, OnErr}
 use Rattle.std.proofs.Math.Nat.{eq-or-lt_of_le}
 use Rattle.std.proofs.lemmas.List.{length-append}
-use Rattle.std.specs.Io.KnownBytes.{Appends, Keeps, Consumes, IsAtEnd}
+use Rattle.std.specs.Io.KnownBytes.{Consumes, IsAtEnd}
 use Rattle.book.specs.Rates.{Meaning}
 use Rattle.page.specs.declared.fault.Cause.TheVariants.{Page}
 use Rattle.page.specs.declared.fault.Fault.{Fault}
@@ -11,56 +11,75 @@ use Rattle.page.specs.Pages.{at_line, Closed, too_long}
 use Rattle.page.proofs.Once.{comes_once}
 use Rattle.printing.specs.declared.printed.Printed.{Printed}
 use Rattle.printing.specs.Listings.{text, fault_of, Prints}
-use Rattle.ratebook.specs.Answers.{status_of, Answers}
+use Rattle.ratebook.specs.Answers.{status_of, Comes}
 
 -- The status by the fault that is told.
 abbrev pub status_told : Option Fault → ℕ
 status_told None = 0
 status_told (Some f) = 1
 
+-- What is said of one variant, where it is known to be that.
+pub on_ok : {T E P : Type 0} (r : Result T E) → true ≡ is_ok r → OnOk r P → P
+on_ok (Ok x) e p = p
+on_ok (Err x) e p = cc
+
+pub on_err : {T E P : Type 0} (r : Result T E) → false ≡ is_ok r → OnErr r P → P
+on_err (Ok x) e p = cc
+on_err (Err x) e p = p
+
 module _ {D : Type 0} (m : D → Meaning) (d : D) where
   status_is : (o : Result (Closed D) Fault) → status_told (fault_of o) ≡ status_of o
   status_is (Ok c) = refl
   status_is (Err f) = refl
 
-  module _ (held held' said said' : Option (List ℕ)) where
-    answers_read : (read buffer buffer' : List ℕ) (printed : Printed) (code : ℕ) → Prints m d read buffer printed buffer' → Appends held held' (take printed.length buffer') → code ≡ status_told printed.fault → (code ≡ 0 → Keeps said said') → Answers m d held held' said said' code read
-    answers_read read buffer buffer' printed code p written status quiet =
-        let shown = text read p.outcome in
-        let front : take printed.length buffer' ≡ shown = ap (take printed.length) p.after ∙ take_at shown (drop (length shown) buffer) printed.length (sym p.count) in
-        record {
-          outcome = p.outcome;
-          comes = p.comes;
-          only = p.only;
-          adds_up = p.adds_up;
-          written = subst (Appends held held') front written;
-          status = status ∙ ap status_told p.fault ∙ status_is p.outcome;
-          quiet = quiet;
-        }
+  -- What was printed is the text of what a page comes to, and by its fault one knows the status.
+  abbrev pub PrintedAs : Printed → List ℕ → List ℕ → Result (Closed D) Fault → Type 0
+  PrintedAs printed buffer' page o = (take printed.length buffer' ≡ text page o) × (status_told printed.fault ≡ status_of o)
 
-    answers_longer : (read page : List ℕ) (code : ℕ) → 65536 < length read → 65536 < length page → Answers m d held held' said said' code read → Answers m d held held' said said' code page
-    answers_longer read page code h long a =
-        let refused : Result (Closed D) Fault = Err (at_line 0 (Page TooLong)) in
-        let e = sym (a.only refused (too_long h)) in
-        record {
-          outcome = refused;
-          comes = too_long long;
-          only = comes_once m d page refused (too_long long);
-          adds_up = tt;
-          written = subst (λ o. Appends held held' (text read o)) e a.written;
-          status = a.status ∙ ap status_of e;
-          quiet = a.quiet;
-        }
+  comes_read : (read buffer buffer' : List ℕ) (printed : Printed) → Prints m d read buffer printed buffer' → Comes m d read (PrintedAs printed buffer' read)
+  comes_read read buffer buffer' printed p =
+      let shown = text read p.outcome in
+      record {
+        outcome = p.outcome;
+        comes = p.comes;
+        only = p.only;
+        adds_up = p.adds_up;
+        holds = (ap (take printed.length) p.after ∙ take_at shown (drop (length shown) buffer) printed.length (sym p.count), ap status_told p.fault ∙ status_is p.outcome);
+      }
 
-    pub answers_page : (left left' : Option (List ℕ)) (n : ℕ) (memory buffer buffer' : List ℕ) (printed : Printed) (code : ℕ) → length memory ≡ 65537 → n ≤ length memory → Consumes left left' (take n memory) → (n < length memory → IsAtEnd left') → Prints m d (take n memory) buffer printed buffer' → Appends held held' (take printed.length buffer') → code ≡ status_told printed.fault → (code ≡ 0 → Keeps said said') → IfSome left (λ page. Answers m d held held' said said' code page)
-    answers_page None left' n memory buffer buffer' printed code size fits lost end p written status quiet = tt
-    answers_page (Some page) None n memory buffer buffer' printed code size fits lost end p written status quiet = absurd lost
-    answers_page (Some page) (Some rest) n memory buffer buffer' printed code size fits lost end p written status quiet =
-        let read = take n memory in
-        let a = answers_read read buffer buffer' printed code p written status quiet in
-        let count : length read ≡ n = length-take-le n memory fits in
-        let all : length page ≡ length read + length rest = ap length lost ∙ length-append read rest in
-        ⊎_elim
-        (λ full. answers_longer read page code (omega arith) (omega arith) a)
-        (λ short. subst (Answers m d held held' said said' code) (sym (lost ∙ ap (λ t. read ++ t) (end short) ∙ append-nil read)) a)
-        (eq-or-lt_of_le fits)
+  comes_longer : (read page buffer' : List ℕ) (printed : Printed) → 65536 < length read → 65536 < length page → Comes m d read (PrintedAs printed buffer' read) → Comes m d page (PrintedAs printed buffer' page)
+  comes_longer read page buffer' printed h long c =
+      let refused : Result (Closed D) Fault = Err (at_line 0 (Page TooLong)) in
+      let e = sym (c.only refused (too_long h)) in
+      record {
+        outcome = refused;
+        comes = too_long long;
+        only = comes_once m d page refused (too_long long);
+        adds_up = tt;
+        holds = (c.holds.0 ∙ ap (text read) e, c.holds.1 ∙ ap status_of e);
+      }
+
+  pub comes_page : (left left' : Option (List ℕ)) (n : ℕ) (memory buffer buffer' : List ℕ) (printed : Printed) → length memory ≡ 65537 → n ≤ length memory → Consumes left left' (take n memory) → (n < length memory → IsAtEnd left') → Prints m d (take n memory) buffer printed buffer' → IfSome left (λ page. Comes m d page (PrintedAs printed buffer' page))
+  comes_page None left' n memory buffer buffer' printed size fits lost end p = tt
+  comes_page (Some page) None n memory buffer buffer' printed size fits lost end p = absurd lost
+  comes_page (Some page) (Some rest) n memory buffer buffer' printed size fits lost end p =
+      let read = take n memory in
+      let c = comes_read read buffer buffer' printed p in
+      let count : length read ≡ n = length-take-le n memory fits in
+      let all : length page ≡ length read + length rest = ap length lost ∙ length-append read rest in
+      ⊎_elim
+      (λ full. comes_longer read page buffer' printed (omega arith) (omega arith) c)
+      (λ short. subst (λ p. Comes m d p (PrintedAs printed buffer' p)) (sym (lost ∙ ap (λ t. read ++ t) (end short) ∙ append-nil read)) c)
+      (eq-or-lt_of_le fits)
+
+  -- What holds of what a page comes to, from what was printed for it.
+  pub comes_so : (left : Option (List ℕ)) (printed : Printed) (buffer' : List ℕ) (P : List ℕ → Result (Closed D) Fault → Type 0) → ((page : List ℕ) (o : Result (Closed D) Fault) → PrintedAs printed buffer' page o → P page o) → IfSome left (λ page. Comes m d page (PrintedAs printed buffer' page)) → IfSome left (λ page. Comes m d page (P page))
+  comes_so None printed buffer' P f c = tt
+  comes_so (Some page) printed buffer' P f c =
+      record {
+        outcome = c.outcome;
+        comes = c.comes;
+        only = c.only;
+        adds_up = c.adds_up;
+        holds = f page c.outcome c.holds;
+      }

@@ -2,20 +2,20 @@
 //! standard output, and a sentence for people on standard error.
 #![tactic(auto)]
 
-ghost use Rattle.std.specs.Prelude.{◌≡◌, true, None, is_some, if◌then◌else◌, IfOk, IfSome};
-ghost use Rattle.std.specs.Io.KnownBytes.{Keeps};
-ghost use Rattle.std.specs.Process.{exit_status};
-ghost use Rattle.ratebook.specs.Answers.{Answers, asks_help};
+ghost use Rattle.std.specs.Prelude.{◌≡◌, true, None, is_some};
+ghost use Rattle.ratebook.specs.Answers.{Answers, Helps, asks_help};
 
 mod answering;
+mod failure;
 mod reading;
 mod sentence;
+mod streams;
 
 use answering::answer_page;
 use divider::Divider;
-use std::io;
-use std::io::{Read, Write};
+pub use failure::Failure;
 use std::process::ExitCode;
+pub use streams::{Sink, Source};
 
 const USAGE: &str = "reads a page of lines from standard input, and prints its listing
 
@@ -34,24 +34,25 @@ fn asks_help(word: Option<&str>) -> bool
 
 /// Runs the program of a divider. Where a word stands after its name, it tells how to
 /// use it, with status 0 if that is what the word asks for, else 1. With none it takes
-/// what its reader has left as a page, and writes what is printed for it; the status is
-/// that of what the page comes to.
-pub fn run<D: Divider + Drop, R: Read, W: Write, E: Write>(
+/// what its source has left as a page, and writes what is printed for it; the status is
+/// that of what the page comes to. It fails where what it is lent fails, and only there.
+pub fn run<D: Divider + Drop, R: Source, W: Sink<Error = R::Error>, E: Sink<Error = R::Error>>(
     divider: D,
     name: &str,
     word: Option<&str>,
     input: &mut R,
     output: &mut W,
     errors: &mut E,
-) -> io::Result<ExitCode>
-    ensures helps { is_some word.entry ≡ true → IfOk result (λ code. (exit_status code ≡ (if asks_help word.entry then 0 else 1)) × Keeps (W.Write.contents output.old) (W.Write.contents output.new)) }
-    ensures answers { word.entry ≡ None → IfOk result (λ code. IfSome (R.Read.remaining input.old) (λ page. Answers D.Divider.meaning divider (W.Write.contents output.old) (W.Write.contents output.new) (E.Write.contents errors.old) (E.Write.contents errors.new) (exit_status code) page)) }
+) -> Result<ExitCode, Failure<R::Error>>
+    ensures helps { is_some word.entry ≡ true → Helps (W.held output.old) (W.held output.new) word.entry result }
+    ensures answers { word.entry ≡ None → Answers D.Divider.meaning divider (R.left input.old) (W.held output.old) (W.held output.new) (E.held errors.old) (E.held errors.new) result }
 {
     if word.is_some() {
-        writeln!(
-            errors,
-            "usage: {name} < PAGE\n\n{name} {USAGE}\n\nexample: bin/{name} < examples/worked.page"
-        )?;
+        errors
+            .tell(format_args!(
+                "usage: {name} < PAGE\n\n{name} {USAGE}\n\nexample: bin/{name} < examples/worked.page"
+            ))
+            .map_err(Failure::Telling)?;
         return Ok(if asks_help(word) {
             ExitCode::SUCCESS
         } else {

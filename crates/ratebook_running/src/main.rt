@@ -5,14 +5,20 @@ use running::RunningSums;
 use std::process::ExitCode;
 use std::{env, io};
 
+const NAME: &str = "ratebook-running";
+
 fn main(rt: HostRuntime) -> io::Result<ExitCode> {
     let word = env::args(&rt)?.nth(1);
-    ratebook::run(
+    let answer = ratebook::run(
         RunningSums,
-        "ratebook-running",
+        NAME,
         word.as_deref(),
         &mut rt.stdin(),
         &mut rt.stdout(),
         &mut rt.stderr(),
-    )
+    );
+    if let Err(failure) = &answer {
+        eprintln!(rt; "{NAME}: {failure}")?;
+    }
+    Ok(answer.unwrap_or(ExitCode::FAILURE))
 }

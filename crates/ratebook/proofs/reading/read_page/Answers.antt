@@ -14,7 +14,7 @@ read_more a k n xs ys within fits =
 
 pub loop-at-preserved : goal.loop-at-preserved
 loop-at-preserved g c =
-    let more = read_more c.loop-at.at _ c.in_ok-count.count c.loop-at.buffer c.read.new.buf (search rules) c.in_ok-count.ensures.bound.0 in (
+    let more = read_more c.loop-at.at _ c.in_ok-count.count c.loop-at.buffer c.read.new.buffer (search rules) c.in_ok-count.ensures.bound.0 in (
       search rules,
       search rules,
       subst (Consumes _ _) (sym more) (Consumes-trans _ _ _ _ _ c.loop-at.invariant.2 c.in_ok-count.ensures.bytes.0),
