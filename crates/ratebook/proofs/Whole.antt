@@ -1,5 +1,5 @@
 -- A page that is read in part is answered as the whole of it: only one that is too long is.
-use Rattle.std.proofs.Common.{◌≡◌, ℕ, ◌+◌, ◌<◌, ◌≤◌, List, ◌++◌, length, take, drop, None, Some, IfSome, Option, Ok, Err, Result, refl, sym, ap, ◌∙◌, subst, ⊎_elim, arith, append-nil, take_at, length-take-le, true, false, is_ok, OnOk, OnErr}
+use Rattle.std.proofs.Common.{◌≡◌, ℕ, ◌+◌, ◌<◌, ◌≤◌, List, ◌++◌, length, take, drop, None, Some, IfSome, Option, Ok, Err, Result, refl, sym, ap, ◌∙◌, subst, ⊎_elim, arith, append-nil, take_at, length-take-le}
 use Rattle.std.proofs.Math.Nat.{eq-or-lt_of_le}
 use Rattle.std.proofs.lemmas.List.{length-append}
 use Rattle.std.specs.Io.KnownBytes.{Consumes, IsAtEnd}
@@ -11,30 +11,16 @@ use Rattle.page.specs.Pages.{at_line, Closed, too_long}
 use Rattle.page.proofs.Once.{comes_once}
 use Rattle.printing.specs.declared.printed.Printed.{Printed}
 use Rattle.printing.specs.Listings.{text, fault_of, Prints}
-use Rattle.ratebook.specs.Answers.{status_of, Comes}
-
--- The status by the fault that is told.
-abbrev pub status_told : Option Fault → ℕ
-status_told None = 0
-status_told (Some f) = 1
-
--- What is said of one variant, where it is known to be that.
-pub on_ok : {T E P : Type 0} (r : Result T E) → true ≡ is_ok r → OnOk r P → P
-on_ok (Ok x) e p = p
-on_ok (Err x) e p = cc
-
-pub on_err : {T E P : Type 0} (r : Result T E) → false ≡ is_ok r → OnErr r P → P
-on_err (Ok x) e p = cc
-on_err (Err x) e p = p
+use Rattle.ratebook.specs.Answers.{status_of, fault_status, Comes}
 
 module _ {D : Type 0} (m : D → Meaning) (d : D) where
-  status_is : (o : Result (Closed D) Fault) → status_told (fault_of o) ≡ status_of o
+  status_is : (o : Result (Closed D) Fault) → fault_status (fault_of o) ≡ status_of o
   status_is (Ok c) = refl
   status_is (Err f) = refl
 
   -- What was printed is the text of what a page comes to, and by its fault one knows the status.
   abbrev pub PrintedAs : Printed → List ℕ → List ℕ → Result (Closed D) Fault → Type 0
-  PrintedAs printed buffer' page o = (take printed.length buffer' ≡ text page o) × (status_told printed.fault ≡ status_of o)
+  PrintedAs printed buffer' page o = (take printed.length buffer' ≡ text page o) × (fault_status printed.fault ≡ status_of o)
 
   comes_read : (read buffer buffer' : List ℕ) (printed : Printed) → Prints m d read buffer printed buffer' → Comes m d read (PrintedAs printed buffer' read)
   comes_read read buffer buffer' printed p =
@@ -44,7 +30,7 @@ module _ {D : Type 0} (m : D → Meaning) (d : D) where
         comes = p.comes;
         only = p.only;
         adds_up = p.adds_up;
-        holds = (ap (take printed.length) p.after ∙ take_at shown (drop (length shown) buffer) printed.length (sym p.count), ap status_told p.fault ∙ status_is p.outcome);
+        holds = (ap (take printed.length) p.after ∙ take_at shown (drop (length shown) buffer) printed.length (sym p.count), ap fault_status p.fault ∙ status_is p.outcome);
       }
 
   comes_longer : (read page buffer' : List ℕ) (printed : Printed) → 65536 < length read → 65536 < length page → Comes m d read (PrintedAs printed buffer' read) → Comes m d page (PrintedAs printed buffer' page)
@@ -59,7 +45,7 @@ module _ {D : Type 0} (m : D → Meaning) (d : D) where
         holds = (c.holds.0 ∙ ap (text read) e, c.holds.1 ∙ ap status_of e);
       }
 
-  pub comes_page : (left left' : Option (List ℕ)) (n : ℕ) (memory buffer buffer' : List ℕ) (printed : Printed) → length memory ≡ 65537 → n ≤ length memory → Consumes left left' (take n memory) → (n < length memory → IsAtEnd left') → Prints m d (take n memory) buffer printed buffer' → IfSome left (λ page. Comes m d page (PrintedAs printed buffer' page))
+  comes_page : (left left' : Option (List ℕ)) (n : ℕ) (memory buffer buffer' : List ℕ) (printed : Printed) → length memory ≡ 65537 → n ≤ length memory → Consumes left left' (take n memory) → (n < length memory → IsAtEnd left') → Prints m d (take n memory) buffer printed buffer' → IfSome left (λ page. Comes m d page (PrintedAs printed buffer' page))
   comes_page None left' n memory buffer buffer' printed size fits lost end p = tt
   comes_page (Some page) None n memory buffer buffer' printed size fits lost end p = absurd lost
   comes_page (Some page) (Some rest) n memory buffer buffer' printed size fits lost end p =
@@ -72,8 +58,7 @@ module _ {D : Type 0} (m : D → Meaning) (d : D) where
       (λ short. subst (λ p. Comes m d p (PrintedAs printed buffer' p)) (sym (lost ∙ ap (λ t. read ++ t) (end short) ∙ append-nil read)) c)
       (eq-or-lt_of_le fits)
 
-  -- What holds of what a page comes to, from what was printed for it.
-  pub comes_so : (left : Option (List ℕ)) (printed : Printed) (buffer' : List ℕ) (P : List ℕ → Result (Closed D) Fault → Type 0) → ((page : List ℕ) (o : Result (Closed D) Fault) → PrintedAs printed buffer' page o → P page o) → IfSome left (λ page. Comes m d page (PrintedAs printed buffer' page)) → IfSome left (λ page. Comes m d page (P page))
+  comes_so : (left : Option (List ℕ)) (printed : Printed) (buffer' : List ℕ) (P : List ℕ → Result (Closed D) Fault → Type 0) → ((page : List ℕ) (o : Result (Closed D) Fault) → PrintedAs printed buffer' page o → P page o) → IfSome left (λ page. Comes m d page (PrintedAs printed buffer' page)) → IfSome left (λ page. Comes m d page (P page))
   comes_so None printed buffer' P f c = tt
   comes_so (Some page) printed buffer' P f c =
       record {
@@ -83,3 +68,8 @@ module _ {D : Type 0} (m : D → Meaning) (d : D) where
         adds_up = c.adds_up;
         holds = f page c.outcome c.holds;
       }
+
+  -- What holds of what the page of a source comes to, from what was read of it and what was printed for that.
+  pub page_comes : (left left' : Option (List ℕ)) (memory : List ℕ) {n : ℕ} {buffer buffer' : List ℕ} {printed : Printed} (P : List ℕ → Result (Closed D) Fault → Type 0) → length memory ≡ 65537 → n ≤ length memory → Consumes left left' (take n memory) → (n < length memory → IsAtEnd left') → Prints m d (take n memory) buffer printed buffer' → ((page : List ℕ) (o : Result (Closed D) Fault) → PrintedAs printed buffer' page o → P page o) → IfSome left (λ page. Comes m d page (P page))
+  page_comes left left' memory {n} {buffer} {buffer'} {printed} P size fits lost end p f =
+      comes_so left printed buffer' P f (comes_page left left' n memory buffer buffer' printed size fits lost end p)

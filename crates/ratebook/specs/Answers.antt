@@ -1,5 +1,5 @@
 -- What a page program does: with its word, and with the page that its source has left.
-use Rattle.std.specs.Prelude.{◌≡◌, ℕ, Bool, false, List, Some, None, IfSome, Ok, Err, Result, Option, codes, bytes_eq, if◌then◌else◌}
+use Rattle.std.specs.Prelude.{◌≡◌, ℕ, Bool, false, List, Some, None, IfSome, Ok, Err, Result, Option, ⊤, codes, bytes_eq, if◌then◌else◌}
 use Rattle.std.specs.Borrow.{Bor}
 use Rattle.std.specs.Io.KnownBytes.{Appends, Keeps}
 use Rattle.std.specs.Process.{exit_status}
@@ -8,9 +8,9 @@ use Rattle.book.specs.Rates.{Meaning}
 use Rattle.page.specs.declared.fault.Fault.{Fault}
 use Rattle.page.specs.Pages.{Closed, ComesTo, OnlyOutcome}
 use Rattle.printing.specs.Listings.{text, ListingAddsUp}
-use Rattle.ratebook.specs.declared.failure.Failure.{Failure}
-use Rattle.ratebook.specs.declared.failure.Failure.TheVariants.{Reading, Writing, Telling}
-use Rattle.ratebook.specs.Written.{AppendsFront}
+use Rattle.streams.specs.Written.{AppendsFront}
+use Rattle.streams.specs.declared.failure.Failure.{Failure}
+use Rattle.streams.specs.declared.failure.Failure.TheVariants.{Reading, Writing, Reporting}
 
 -- Whether the first word after the program's name asks for help.
 abbrev pub asks_help : Option (Bor (List ℕ)) → Bool
@@ -22,6 +22,11 @@ abbrev pub status_of : {D : Type 0} → Result (Closed D) Fault → ℕ
 status_of (Ok c) = 0
 status_of (Err f) = 1
 
+-- The same, by the fault that is printed, if one is.
+abbrev pub fault_status : Option Fault → ℕ
+fault_status None = 0
+fault_status (Some f) = 1
+
 -- What a page comes to, and what holds of it.
 pub record Comes {D : Type 0} (m : D → Meaning) (d : D) (page : List ℕ) (P : Result (Closed D) Fault → Type 0) : Type 0 where
   pub outcome : Result (Closed D) Fault
@@ -30,23 +35,26 @@ pub record Comes {D : Type 0} (m : D → Meaning) (d : D) (page : List ℕ) (P :
   pub adds_up : ListingAddsUp page outcome
   pub holds : P outcome
 
-module _ {D X : Type 0} (m : D → Meaning) (d : D) where
-  -- What a page comes to is written, the whole of it and nothing else; of a page that is billed
-  -- nothing is said. Where reading fails nothing is written, and where writing does only a front
-  -- of it is; nothing is said at either. Where a sentence fails, all of it is written. Both
-  -- writers go from what they held to what they hold, where that is known, and so does the page.
-  abbrev pub Answers : (left held held' said said' : Option (List ℕ)) → Result ExitCode (Failure X) → Type 0
+module _ {D R W E : Type 0} (m : D → Meaning) (d : D) where
+  -- What a page comes to is written, the whole of it and nothing else, and of a page that is billed
+  -- nothing is reported. Where reading fails nothing is written; where writing fails only a front
+  -- of it is; and nothing is reported at either. Where a sentence fails, all of it is written, and
+  -- it is the row of a fault. Both sinks go from what they held to what they hold, where that is
+  -- known, and the page is known where the bytes that the source has left are.
+  abbrev pub Answers : (left held held' said said' : Option (List ℕ)) → Result ExitCode (Failure R W E) → Type 0
   Answers left held held' said said' (Ok code) =
-      IfSome left (λ page. Comes m d page (λ o. Appends held held' (text page o) × (exit_status code ≡ status_of o) × (status_of o ≡ 0 → Keeps said said')))
+      IfSome left (λ page. Comes m d page (λ o.
+          Appends held held' (text page o) × (exit_status code ≡ status_of o) × (status_of o ≡ 0 → Keeps said said')))
   Answers left held held' said said' (Err (Reading e)) = Keeps held held' × Keeps said said'
-  Answers left held held' said said' (Err (Writing e)) =
-      IfSome left (λ page. Comes m d page (λ o. AppendsFront held held' (text page o))) × Keeps said said'
-  Answers left held held' said said' (Err (Telling e)) =
+  Answers left held held' said said' (Err (Writing e code)) =
+      IfSome left (λ page. Comes m d page (λ o.
+          AppendsFront held held' (text page o) × (exit_status code ≡ status_of o)))
+      × Keeps said said'
+  Answers left held held' said said' (Err (Reporting e)) =
       IfSome left (λ page. Comes m d page (λ o. Appends held held' (text page o) × (status_of o ≡ 1)))
 
--- With a word nothing is written, and the status says whether the word asks for help.
-abbrev pub Helps : {X : Type 0} → (held held' : Option (List ℕ)) → Option (Bor (List ℕ)) → Result ExitCode (Failure X) → Type 0
-Helps held held' word (Ok code) = (exit_status code ≡ (if asks_help word then 0 else 1)) × Keeps held held'
-Helps held held' word (Err (Reading e)) = ⊥
-Helps held held' word (Err (Writing e)) = ⊥
-Helps held held' word (Err (Telling e)) = Keeps held held'
+-- With a word the status says whether it asks for help, and only the sentence can fail.
+abbrev pub Helps : {R W E : Type 0} → Option (Bor (List ℕ)) → Result ExitCode (Failure R W E) → Type 0
+Helps word (Ok code) = exit_status code ≡ (if asks_help word then 0 else 1)
+Helps word (Err (Reporting e)) = ⊤
+Helps word (Err e) = ⊥

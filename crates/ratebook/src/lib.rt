@@ -3,19 +3,17 @@
 #![tactic(auto)]
 
 ghost use Rattle.std.specs.Prelude.{◌≡◌, true, None, is_some};
+ghost use Rattle.std.specs.Io.KnownBytes.{Keeps};
 ghost use Rattle.ratebook.specs.Answers.{Answers, Helps, asks_help};
 
 mod answering;
-mod failure;
 mod reading;
 mod sentence;
-mod streams;
 
 use answering::answer_page;
 use divider::Divider;
-pub use failure::Failure;
 use std::process::ExitCode;
-pub use streams::{Sink, Source};
+use streams::{Failure, Sink, Source};
 
 const USAGE: &str = "reads a page of lines from standard input, and prints its listing
 
@@ -32,32 +30,42 @@ fn asks_help(word: Option<&str>) -> bool
     word.is_some_and(|word| word == "--help")
 }
 
-/// Runs the program of a divider. Where a word stands after its name, it tells how to
-/// use it, with status 0 if that is what the word asks for, else 1. With none it takes
-/// what its source has left as a page, and writes what is printed for it; the status is
-/// that of what the page comes to. It fails where what it is lent fails, and only there.
-pub fn run<D: Divider + Drop, R: Source, W: Sink<Error = R::Error>, E: Sink<Error = R::Error>>(
+// Says how the program is used.
+fn help<R, W, E: Sink>(
+    name: &str,
+    word: Option<&str>,
+    errors: &mut E,
+) -> Result<ExitCode, Failure<R, W, E::Error>>
+    ensures { Helps word.entry result }
+{
+    let usage = format_args!(
+        "usage: {name} < PAGE\n\n{name} {USAGE}\n\nexample: bin/{name} < examples/worked.page"
+    );
+    match errors.write_line(usage) {
+        Err(error) => Err(Failure::Reporting(error)),
+        Ok(()) if asks_help(word) => Ok(ExitCode::SUCCESS),
+        Ok(()) => Ok(ExitCode::FAILURE),
+    }
+}
+
+/// Runs the program of a divider. With a word after its name it says on `errors` how it is used,
+/// with status 0 if that is what the word asks for, else 1. With none it takes what its source
+/// has left as a page, and writes what is printed for it: its listing, with status 0, or the row
+/// of its fault, with status 1 and a sentence on `errors`. It fails where what it is lent fails,
+/// and only there.
+pub fn run<D: Divider + Drop, R: Source, W: Sink, E: Sink>(
     divider: D,
     name: &str,
     word: Option<&str>,
     input: &mut R,
     output: &mut W,
     errors: &mut E,
-) -> Result<ExitCode, Failure<R::Error>>
-    ensures helps { is_some word.entry ≡ true → Helps (W.held output.old) (W.held output.new) word.entry result }
+) -> Result<ExitCode, Failure<R::Error, W::Error, E::Error>>
+    ensures helps { is_some word.entry ≡ true → Helps word.entry result × Keeps (W.held output.old) (W.held output.new) }
     ensures answers { word.entry ≡ None → Answers D.Divider.meaning divider (R.left input.old) (W.held output.old) (W.held output.new) (E.held errors.old) (E.held errors.new) result }
 {
     if word.is_some() {
-        errors
-            .tell(format_args!(
-                "usage: {name} < PAGE\n\n{name} {USAGE}\n\nexample: bin/{name} < examples/worked.page"
-            ))
-            .map_err(Failure::Telling)?;
-        return Ok(if asks_help(word) {
-            ExitCode::SUCCESS
-        } else {
-            ExitCode::FAILURE
-        });
+        return help(name, word, errors);
     }
     answer_page(divider, name, input, output, errors)
 }

@@ -2,10 +2,10 @@
 ghost use Rattle.std.specs.Prelude.{◌≤◌, ◌<◌, length, take, IfOk};
 ghost use Rattle.std.specs.Io.KnownBytes.{Consumes, IsAtEnd};
 
-use crate::streams::Source;
+use streams::Source;
 
 /// Reads into a buffer, up to the end of the source or until the buffer is full,
-/// and answers how many bytes it read.
+/// and returns how many bytes it read.
 pub(crate) fn read_page<R: Source>(input: &mut R, buffer: &mut [u8]) -> Result<usize, R::Error>
     ensures fits { IfOk result (λ n. n ≤ length buffer.new) }
     ensures bytes { IfOk result (λ n. Consumes (R.left input.old) (R.left input.new) (take n buffer.new)) }

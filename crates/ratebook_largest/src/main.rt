@@ -2,14 +2,22 @@
 #![tactic(auto)]
 
 use largest::LargestRemainder;
+use ratebook::run;
+use std::env;
 use std::process::ExitCode;
-use std::{env, io};
+use streams::conclude;
 
 const NAME: &str = "ratebook-largest";
 
-fn main(rt: HostRuntime) -> io::Result<ExitCode> {
-    let word = env::args(&rt)?.nth(1);
-    let answer = ratebook::run(
+fn main(rt: HostRuntime) -> ExitCode {
+    let word = match env::args(&rt) {
+        Ok(mut words) => words.nth(1),
+        Err(error) => {
+            let _ = eprintln!(rt; "{NAME}: the words after its name cannot be read: {error}");
+            return ExitCode::FAILURE;
+        }
+    };
+    let answer = run(
         LargestRemainder,
         NAME,
         word.as_deref(),
@@ -17,8 +25,5 @@ fn main(rt: HostRuntime) -> io::Result<ExitCode> {
         &mut rt.stdout(),
         &mut rt.stderr(),
     );
-    if let Err(failure) = &answer {
-        eprintln!(rt; "{NAME}: {failure}")?;
-    }
-    Ok(answer.unwrap_or(ExitCode::FAILURE))
+    conclude(NAME, answer, &mut rt.stderr())
 }

@@ -3,8 +3,8 @@ use Rattle.std.proofs.Math.Seq.{take-add}
 use Rattle.std.proofs.lemmas.List.{take_rest}
 use Rattle.std.specs.Io.KnownBytes.{Appends}
 use Rattle.std.proofs.KnownBytes.{Appends-trans, Appends-kept}
-use Rattle.ratebook.proofs.streams.AnySink.write_all.Goals as goal
-use Rattle.ratebook.proofs.streams.AnySink.write_all.Goals.{in-Ok, in-Err}
+use Rattle.streams.proofs.sink.AnySink.write_all.Goals as goal
+use Rattle.streams.proofs.sink.AnySink.write_all.Goals.{in-Ok, in-Err}
 
 -- The front of some bytes, and n more of the rest.
 write_more : (a n : ℕ) (bs : List ℕ) → take a bs ++ take n (take (length bs - a) (drop a bs)) ≡ take (a + n) bs
