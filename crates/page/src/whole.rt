@@ -103,7 +103,9 @@ fn bill_in<D: Divider + Drop>(
 /// refuse is told with the number of the line; at the end, of the last.
 ///
 /// The marks add up to the founding total and the grants, the RHWMs to the
-/// capability, and the charges in each pool to its cost.
+/// capability, and the charges in each pool to its cost, which is the one drawn
+/// from the page's lines. All charges add up to the page's expenses less its
+/// credits.
 pub fn bill_page<D: Divider + Drop>(divider: D, page: &[u8]) -> Result<Billed<D>, Fault>
     ensures comes { ComesTo D.Divider.meaning divider page.now (closed_as result) }
     ensures only { OnlyOutcome D.Divider.meaning divider page.now (closed_as result) }
