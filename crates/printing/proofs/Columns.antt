@@ -6,6 +6,8 @@ use Rattle.std.proofs.lemmas.List.Sorted.{IsPermutation-sym, length_permutation,
 use Rattle.units.specs.declared.header.Header.{Header}
 use Rattle.register.specs.Records.{lookup, InOrder, Rising}
 use Rattle.records.specs.declared.customer.Customer.{Customer}
+use Rattle.records.specs.declared.pool.Pool.{Pool}
+use Rattle.records.specs.declared.pool.Pool.TheVariants.{Composite, NonSlice, Slice, Tier2}
 use Rattle.records.specs.Figures.{above_rhwm}
 use Rattle.records.specs.Pools.{order}
 use Rattle.book.specs.Customers.{key, nobody}
@@ -13,14 +15,14 @@ use Rattle.book.specs.Rates.{Meaning}
 use Rattle.book.specs.declared.stages.Intake.{Intake}
 use Rattle.book.specs.declared.stages.ClosedBook.{ClosedBook}
 use Rattle.lines.specs.Lines.{header, customer, cost, grant, transfer, line_of}
-use Rattle.runs.specs.Runs.{LawfulMeaning}
+use Rattle.runs.specs.Runs.{sumℤ, charges_in, LawfulMeaning}
 use Rattle.page.specs.declared.fault.Fault.{Fault}
 use Rattle.page.specs.Pages as page
 use Rattle.page.specs.Pages.{Reading, Closed, Heads, Leads, Settles, ComesTo, page_lines}
 use Rattle.page.proofs.Adding.{page_adds_up}
-use Rattle.printing.specs.Listings.{numbers, ListingAddsUp}
+use Rattle.printing.specs.Listings.{numbers, charged, ListingAddsUp}
 use Rattle.printing.specs.Steps.{CustomersFirst, Headed, Listable}
-use Rattle.printing.proofs.Numbers.{all_found, sum_by-column, sumℤ-column}
+use Rattle.printing.proofs.Numbers.{all_found, sumℤ-four, sum_by-column, sumℤ-column}
 use Rattle.printing.proofs.Taking.{takes_numbers, takes_ordered, takes_few, takes_first, plays_none, plays_numbers, founds_numbers, settles_numbers}
 
 -- The customers that stand are those of some numbers, in rising order, and not too many.
@@ -84,10 +86,13 @@ module _ {D : Type 0} (m : D → Meaning) where
       let sums = page_adds_up m fair d bytes (Ok c) comes in
       let whole : take n cs ≡ cs = take_all n cs (omega arith) in
       let column = sum_by-column key cs stand.ordered ns stand.all in
+      let charges : (p : Pool) → sumℤ (map (charged c p) ns) ≡ sumℤ (charges_in p n c.charges) = λ p. simp get_or-drop at (sumℤ-column key cs stand.ordered ns stand.all (drop (order p * n) c.charges)) in
       record {
         customers = stand.all;
         marks = column (λ (x : Customer). x.mark) nobody refl cs ∙ ap (sum_by (λ (x : Customer). x.mark)) whole ∙ sums.marks;
         rhwms = column (λ (x : Customer). x.rhwm) nobody refl cs ∙ ap (sum_by (λ (x : Customer). x.rhwm)) whole ∙ sums.rhwms;
         above = column above_rhwm nobody refl cs ∙ ap (sum_by above_rhwm) whole;
-        charges = λ p. simp get_or-drop at (sumℤ-column key cs stand.ordered ns stand.all (drop (order p * n) c.charges)) ∙ sums.charges p;
+        charges = λ p. charges p ∙ sums.charges p;
+        costs = sums.costs;
+        together = sumℤ-four (charged c Composite) (charged c NonSlice) (charged c Slice) (charged c Tier2) ns ∙ rw (charges Composite, charges NonSlice, charges Slice, charges Tier2) sums.together;
       }

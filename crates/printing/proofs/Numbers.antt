@@ -34,6 +34,18 @@ folded a (z ∷ zs) =
 signed_sum : (zs : List ℤ) → sumℤ zs ≡ pos (sum_by up zs) -ℤ pos (sum_by down zs)
 signed_sum zs = omega (arith, ints, folded (pos 0) zs)
 
+-- one signed number more
+sumℤ-cons : (z : ℤ) (zs : List ℤ) → sumℤ (z ∷ zs) ≡ z +ℤ sumℤ zs
+sumℤ-cons z zs =
+    omega (arith, ints, signed_sum (z ∷ zs), signed_sum zs, sum_by-cons up z zs, sum_by-cons down z zs)
+
+-- What four columns hold in each row adds up as the columns do.
+pub sumℤ-four : {X : Type 0} (f g h k : X → ℤ) (xs : List X) → sumℤ (map (λ x. f x +ℤ g x +ℤ h x +ℤ k x) xs) ≡ sumℤ (map f xs) +ℤ sumℤ (map g xs) +ℤ sumℤ (map h xs) +ℤ sumℤ (map k xs)
+sumℤ-four f g h k [] = refl
+sumℤ-four {X = X} f g h k (x ∷ xs) =
+    let row = λ (y : X). f y +ℤ g y +ℤ h y +ℤ k y in
+    omega (arith, ints, sumℤ-four f g h k xs, sumℤ-cons (row x) (map row xs), sumℤ-cons (f x) (map f xs), sumℤ-cons (g x) (map g xs), sumℤ-cons (h x) (map h xs), sumℤ-cons (k x) (map k xs))
+
 module _ {R : Type 0} (key : R → ℕ) where
   -- A record that is added adds its number.
   pub numbers_added : (row : R) (xs : List R) → IsPermutation (map key xs ++ key row ∷ []) (map key (added key row xs))

@@ -34,7 +34,9 @@ fn write_fault(fault: Fault, buffer: &mut [u8]) -> usize
 /// The listing has a row for each customer, in the order of the page, and then
 /// the row of sums. The marks of the rows add up to the founding total and the
 /// grants, the RHWMs to the capability, and the charges in each pool to its
-/// cost. The bytes of the buffer past what is printed stay as they were.
+/// cost, which is the one drawn from the page's lines. All charges add up to the
+/// page's expenses less its credits. The bytes of the buffer past what is
+/// printed stay as they were.
 pub fn print_page<D: Divider + Drop>(divider: D, page: &[u8], buffer: &mut [u8; ROOM]) -> Printed
     ensures prints { Prints D.Divider.meaning divider page.now buffer.old result buffer.new }
     ensures fits { result.length ≤ length buffer.new }
