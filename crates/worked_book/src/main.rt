@@ -6,6 +6,10 @@
 //! and the charges in C, N, S and T.
 #![tactic(auto)]
 
+ghost use Rattle.std.specs.Prelude.{◌≡◌, codes};
+ghost use Rattle.register.specs.Register.{room, records, Kept};
+ghost use Rattle.worked_book.specs.Calls.{Transfers, GrantsRanged, PostsRanged, BillsOn, EntersAll, PostsAll, BillsAll};
+
 use book::{ClosedBook, Figures, Intake, OpenBook, Posting, Refusal};
 use largest::LargestRemainder;
 use records::{CostLine, Customer};
@@ -51,6 +55,14 @@ const FIGURES: [Figures; 3] = [
     },
 ];
 
+// The cost lines: number, what the line does, cents.
+const LINES: [(u32, Posting, u64); 4] = [
+    (10, Posting::Expense('C'), 1000),
+    (20, Posting::Credit('C'), 120),
+    (30, Posting::Expense('T'), 33),
+    (40, Posting::Shift('N', 'C'), 20),
+];
+
 // Says how a call ended.
 fn tell(rt: &HostRuntime, what: &str, answer: Result<(), Refusal>) -> io::Result<()> {
     match answer {
@@ -73,7 +85,10 @@ fn transfer(
     giver: u32,
     receiver: u32,
     thousandths: u64,
-) -> Result<(), Refusal> {
+) -> Result<(), Refusal>
+    ensures done { Transfers giver receiver thousandths (records customers.old) result (records customers.new) }
+    ensures kept { Kept customers.old customers.new }
+{
     let parcel = book.lift(customers, giver, Load::new(thousandths)?)?;
     book.land(customers, parcel, receiver)
 }
@@ -84,7 +99,10 @@ fn grant(
     customers: &mut Register<'_, Customer>,
     number: u32,
     thousandths: u64,
-) -> Result<(), Refusal> {
+) -> Result<(), Refusal>
+    ensures done { GrantsRanged number thousandths (book.old, records customers.old) result (book.new, records customers.new) }
+    ensures kept { Kept customers.old customers.new }
+{
     book.grant(customers, number, Load::new(thousandths)?)
 }
 
@@ -92,7 +110,10 @@ fn grant(
 fn enter_all(
     intake: &Intake<LargestRemainder>,
     customers: &mut Register<'_, Customer>,
-) -> Result<(), Refusal> {
+) -> Result<(), Refusal>
+    ensures done { EntersAll (room customers.old) FIGURES (records customers.old) result (records customers.new) }
+    ensures kept { Kept customers.old customers.new }
+{
     for figures in FIGURES {
         intake.enter(customers, figures)?;
     }
@@ -106,7 +127,10 @@ fn post(
     number: u32,
     posting: Posting,
     cents: u64,
-) -> Result<(), Refusal> {
+) -> Result<(), Refusal>
+    ensures done { PostsRanged (room lines.old) number posting cents (book.old, records lines.old) result (book.new, records lines.new) }
+    ensures kept { Kept lines.old lines.new }
+{
     book.post(lines, number, posting, Cents::new(cents)?)
 }
 
@@ -114,11 +138,14 @@ fn post(
 fn post_all(
     book: &mut OpenBook<LargestRemainder>,
     lines: &mut Register<'_, CostLine>,
-) -> Result<(), Refusal> {
-    post(book, lines, 10, Posting::Expense('C'), 1000)?;
-    post(book, lines, 20, Posting::Credit('C'), 120)?;
-    post(book, lines, 30, Posting::Expense('T'), 33)?;
-    post(book, lines, 40, Posting::Shift('N', 'C'), 20)
+) -> Result<(), Refusal>
+    ensures done { PostsAll (room lines.old) LINES (book.old, records lines.old) result (book.new, records lines.new) }
+    ensures kept { Kept lines.old lines.new }
+{
+    for (number, posting, cents) in LINES {
+        post(book, lines, number, posting, cents)?;
+    }
+    Ok(())
 }
 
 // Bills a pool.
@@ -127,7 +154,9 @@ fn bill(
     customers: &Register<'_, Customer>,
     letter: char,
     charges: &mut [i64],
-) -> Result<(), Refusal> {
+) -> Result<(), Refusal>
+    ensures { BillsOn book.now (records customers.now) letter charges.old result charges.new }
+{
     book.bill(customers, letter, &mut [0; 3], &mut [0; 3], charges)
 }
 
@@ -136,7 +165,9 @@ fn bill_all(
     book: &ClosedBook<LargestRemainder>,
     customers: &Register<'_, Customer>,
     charges: &mut [i64],
-) -> Result<(), Refusal> {
+) -> Result<(), Refusal>
+    ensures { BillsAll book.now (records customers.now) (codes "CNST") charges.old result charges.new }
+{
     for letter in ['C', 'N', 'S', 'T'] {
         bill(book, customers, letter, charges)?;
     }
