@@ -6,7 +6,8 @@
 //! and the charges in C, N, S and T.
 #![tactic(auto)]
 
-ghost use Rattle.std.specs.Prelude.{◌≡◌, codes};
+ghost use Rattle.std.specs.Prelude.{◌≡◌, codes, bytes_eq, if◌then◌else◌};
+ghost use Rattle.std.specs.Process.{exit_status};
 ghost use Rattle.register.specs.Register.{room, records, Kept};
 ghost use Rattle.worked_book.specs.Calls.{Transfers, GrantsRanged, PostsRanged, BillsOn, EntersAll, PostsAll, BillsAll};
 
@@ -14,8 +15,9 @@ use book::{ClosedBook, Figures, Intake, OpenBook, Posting, Refusal};
 use largest::LargestRemainder;
 use records::{CostLine, Customer};
 use register::Register;
-use std::io;
 use std::process::ExitCode;
+use std::{env, io};
+use streams::{Failure, conclude};
 use units::{Cents, Header, Load};
 
 // The customers Alder, Birch and Cedar.
@@ -64,7 +66,7 @@ const LINES: [(u32, Posting, u64); 4] = [
 ];
 
 // Says how a call ended.
-fn tell(rt: &HostRuntime, what: &str, answer: Result<(), Refusal>) -> io::Result<()> {
+fn report(rt: &HostRuntime, what: &str, answer: Result<(), Refusal>) -> io::Result<()> {
     match answer {
         Ok(()) => println!(rt; "{what}: accepted"),
         Err(refusal) => println!(rt; "{what}: {}", refusal.number()),
@@ -203,20 +205,20 @@ fn settle(
     granted: u64,
 ) -> io::Result<()> {
     print_marks(rt, customers)?;
-    tell(rt, "transfer", transfer(&book, customers, 2, 1, 31))?;
-    tell(rt, "transfer", transfer(&book, customers, 1, 7, 5))?;
-    tell(rt, "transfer", transfer(&book, customers, 1, 2, 5))?;
+    report(rt, "transfer", transfer(&book, customers, 2, 1, 31))?;
+    report(rt, "transfer", transfer(&book, customers, 1, 7, 5))?;
+    report(rt, "transfer", transfer(&book, customers, 1, 2, 5))?;
     print_marks(rt, customers)?;
-    tell(rt, "transfer", transfer(&book, customers, 2, 1, 5))?;
-    tell(rt, "grant", grant(&mut book, customers, 1, granted))?;
-    tell(rt, "posting", post_all(&mut book, lines))?;
+    report(rt, "transfer", transfer(&book, customers, 2, 1, 5))?;
+    report(rt, "grant", grant(&mut book, customers, 1, granted))?;
+    report(rt, "posting", post_all(&mut book, lines))?;
     match book.close(customers, &mut [0; 3], &mut [0; 3]) {
         Ok(closed) => {
             let mut charges = [0; 12];
-            tell(rt, "billing", bill_all(&closed, customers, &mut charges))?;
+            report(rt, "billing", bill_all(&closed, customers, &mut charges))?;
             print_all(rt, customers, &charges)
         }
-        Err((_, refusal)) => tell(rt, "closing", Err(refusal)),
+        Err((_, refusal)) => report(rt, "closing", Err(refusal)),
     }
 }
 
@@ -227,19 +229,58 @@ fn run(rt: &HostRuntime, header: Header, granted: u64) -> io::Result<()> {
     let mut line_places = [CostLine::BLANK; 4];
     let mut lines = Register::new(&mut line_places);
     let intake = Intake::new(LargestRemainder, header);
-    tell(rt, "entering", enter_all(&intake, &mut customers))?;
+    report(rt, "entering", enter_all(&intake, &mut customers))?;
     match runs::found(intake, &mut customers, &mut [0; 3], &mut [0; 3]) {
         Ok(book) => settle(rt, book, &mut customers, &mut lines, granted),
-        Err((_, refusal)) => tell(rt, "founding", Err(refusal)),
+        Err((_, refusal)) => report(rt, "founding", Err(refusal)),
     }
 }
 
-fn main(rt: HostRuntime) -> io::Result<ExitCode> {
-    let Ok(header) = Header::new(101, 97) else {
-        eprintln!(rt; "worked_book: the header is out of range")?;
-        return Ok(ExitCode::FAILURE);
+const NAME: &str = "worked-book";
+
+const USAGE: &str = "takes the worked book of three customers from entering to the bills
+
+It reads nothing. It prints the marks after founding and after the transfers,
+how each call ended, and each customer's number, mark, RHWM, Above-RHWM load
+and charges in C, N, S and T; once with a grant that is refused, and once with
+one that is accepted.";
+
+// Both runs: with a grant above the most, and with one that is accepted.
+fn run_both(rt: &HostRuntime, header: Header) -> io::Result<()> {
+    run(rt, header, 50_001)?;
+    run(rt, header, 9)
+}
+
+// Says how the program is used.
+fn help(rt: &HostRuntime, word: &str) -> ExitCode
+    ensures { exit_status result ≡ (if bytes_eq word.now (codes "--help") then 0 else 1) }
+{
+    let _ = eprintln!(rt; "usage: {NAME}\n\n{NAME} {USAGE}");
+    if word == "--help" {
+        ExitCode::SUCCESS
+    } else {
+        ExitCode::FAILURE
+    }
+}
+
+fn main(rt: HostRuntime) -> ExitCode {
+    let word = match env::args(&rt) {
+        Ok(mut words) => words.nth(1),
+        Err(error) => {
+            let _ = eprintln!(rt; "{NAME}: the words after its name cannot be read: {error}");
+            return ExitCode::FAILURE;
+        }
     };
-    run(&rt, header, 50_001)?;
-    run(&rt, header, 9)?;
-    Ok(ExitCode::SUCCESS)
+    if let Some(word) = word {
+        return help(&rt, word.as_str());
+    }
+    let Ok(header) = Header::new(101, 97) else {
+        let _ = eprintln!(rt; "{NAME}: the header is out of range");
+        return ExitCode::FAILURE;
+    };
+    let answer = match run_both(&rt, header) {
+        Ok(()) => Ok(ExitCode::SUCCESS),
+        Err(error) => Err(Failure::Writing(error, ExitCode::SUCCESS)),
+    };
+    conclude(NAME, answer, &mut rt.stderr())
 }
