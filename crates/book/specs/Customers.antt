@@ -1,8 +1,7 @@
 -- Customers as they are entered, and what the book writes into their records.
 use Rattle.std.specs.Prelude.{◌≡◌, ℕ, Bool, cond, not, ◌&&◌, List, [], ◌∷◌, length, is_some, is_ok, Option, Result, nat_lt}
 use Rattle.std.specs.Option.{unwrap_or}
-use Rattle.units.specs.Ranges.{in_range}
-use Rattle.units.specs.declared.ranges.Letter.TheVariants as line
+use Rattle.units.specs.Ranges.{admits, number_figure, measured_figure, founding_figure, conservation_figure, retail_figure, large_figure, resources_figure, elected_figure, slice_figure}
 use Rattle.register.specs.Records.{lookup, added}
 use Rattle.records.specs.declared.customer.Customer.{Customer}
 use Rattle.book.specs.declared.figures.Figures.{Figures}
@@ -33,15 +32,15 @@ entered f = record {
 -- Whether every figure is in its range.
 abbrev pub in_ranges : Figures → Bool
 in_ranges f =
-    in_range line.Customer 2 f.number
-    && in_range line.Customer 4 f.measured
-    && in_range line.Customer 5 f.founding
-    && in_range line.Customer 6 f.conservation
-    && in_range line.Customer 7 f.retail
-    && in_range line.Customer 8 f.large
-    && in_range line.Customer 9 f.resources
-    && in_range line.Customer 10 f.elected
-    && in_range line.Customer 11 f.slice
+    admits number_figure f.number
+    && admits measured_figure f.measured
+    && admits founding_figure f.founding
+    && admits conservation_figure f.conservation
+    && admits retail_figure f.retail
+    && admits large_figure f.large
+    && admits resources_figure f.resources
+    && admits elected_figure f.elected
+    && admits slice_figure f.slice
 
 -- The questions of enter, where the register has so many places.
 abbrev pub enter_asks : ℕ → List Customer → Figures → Option Refusal

@@ -1,8 +1,7 @@
 -- Posting and striking of cost lines.
 use Rattle.std.specs.Prelude.{◌≡◌, ℕ, cond, not, List, [], ◌∷◌, length, is_some, is_ok, Option, Result, nat_lt}
 use Rattle.std.specs.Option.{unwrap_or}
-use Rattle.units.specs.Ranges.{in_range}
-use Rattle.units.specs.declared.ranges.Letter.TheVariants as line
+use Rattle.units.specs.Ranges.{admits, number_figure}
 use Rattle.register.specs.Records.{lookup, added, without}
 use Rattle.records.specs.declared.cost_line.CostLine.{CostLine}
 use Rattle.records.specs.declared.cost_line.Entry.{Entry}
@@ -30,7 +29,7 @@ new_line number p cents = record { number = number; entry = entry_in p; cents = 
 abbrev pub post_asks : {D : Type 0} → OpenBook D → ℕ → List CostLine → ℕ → Posting → ℕ → Option Refusal
 post_asks b places lines number p cents =
     first (
-    (in_range line.Expense 2 number, OutOfRange)
+    (admits number_figure number, OutOfRange)
     ∷ (is_some (entry_of p), UnknownPool)
     ∷ (nat_lt (length lines) places, Full)
     ∷ (not (is_some (lookup key number lines)), Taken)

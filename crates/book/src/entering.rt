@@ -8,22 +8,22 @@ use crate::refusal::Refusal;
 use crate::stages::Intake;
 use records::Customer;
 use register::Register;
-use units::{Letter, in_range};
+use units::{CONSERVATION, ELECTED, FOUNDING, LARGE, MEASURED, NUMBER, RESOURCES, RETAIL, SLICE};
 
 impl Figures {
     /// Whether every figure is in its range.
     pub fn are_in_range(&self) -> bool
         ensures { result ≡ in_ranges self.now }
     {
-        in_range(Letter::Customer, 2, self.number)
-            && in_range(Letter::Customer, 4, self.measured)
-            && in_range(Letter::Customer, 5, self.founding)
-            && in_range(Letter::Customer, 6, self.conservation)
-            && in_range(Letter::Customer, 7, self.retail)
-            && in_range(Letter::Customer, 8, self.large)
-            && in_range(Letter::Customer, 9, self.resources)
-            && in_range(Letter::Customer, 10, self.elected)
-            && in_range(Letter::Customer, 11, self.slice)
+        NUMBER.admits(self.number)
+            && MEASURED.admits(self.measured)
+            && FOUNDING.admits(self.founding)
+            && CONSERVATION.admits(self.conservation)
+            && RETAIL.admits(self.retail)
+            && LARGE.admits(self.large)
+            && RESOURCES.admits(self.resources)
+            && ELECTED.admits(self.elected)
+            && SLICE.admits(self.slice)
     }
 
     // The record of a customer that is just entered.

@@ -11,7 +11,7 @@ use crate::refusal::Refusal;
 use crate::stages::OpenBook;
 use records::{CostLine, Entry, Pool};
 use register::Register;
-use units::{Cents, Letter, in_range};
+use units::{Cents, NUMBER};
 
 impl<D> OpenBook<D> {
     /// Enters a cost line, and raises the sides of its pools.
@@ -30,7 +30,7 @@ impl<D> OpenBook<D> {
         ensures done { Posts self.old (room lines.old) (records lines.old) number posting amount.amount result self.new (records lines.new) }
         ensures kept { Kept lines.old lines.new }
     {
-        if !in_range(Letter::Expense, 2, u64::from(number)) {
+        if !NUMBER.admits(u64::from(number)) {
             return Err(Refusal::OutOfRange);
         }
         let Some(entry) = posting.entry() else {

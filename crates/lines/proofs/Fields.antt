@@ -1,5 +1,5 @@
 -- What is asked of a field, by what it holds.
-use Rattle.std.proofs.Common.{◌≡◌, ℕ, zero, suc, ◌-◌, ◌^◌, ◌<◌, ◌≤◌, Bool, true, false, cond, not, ◌&&◌, ◌||◌, eqb, ltb, leb, ◌⊎◌, List, [], ◌∷◌, length, get_or, is_some, Some, None, Ok, Err, decimal, Option, Result, sym, refl, ap, ◌∙◌, subst, ⊎_elim, arith}
+use Rattle.std.proofs.Common.{◌≡◌, ℕ, zero, suc, ◌-◌, ◌^◌, ◌<◌, ◌≤◌, Bool, true, false, cond, not, ◌&&◌, eqb, ltb, leb, ◌⊎◌, List, [], ◌∷◌, length, get_or, is_some, Some, None, Ok, Err, decimal, Option, Result, sym, refl, ap, ◌∙◌, subst, inr, ⊎_elim, arith}
 use lib.Utf8.{encode}
 use Rattle.std.specs.Str.Parse.{digits_value}
 use Rattle.std.specs.Char.{len_utf8}
@@ -12,9 +12,11 @@ use Rattle.std.proofs.lemmas.Str.Parse.{IsNumeralModel, numerals_by_value, tells
 use Rattle.std.proofs.lemmas.Bool.{cases_lt, cases_eq, cond_both, lt-ltb, ltb-true, ne_eqb, and_parts, and_left, leb-true, le-leb}
 use Rattle.std.proofs.lemmas.Str.{encode_ascii, length-encode, len_utf8_bounds, char_from_byte}
 use Rattle.std.proofs.lemmas.Bool.Decides.{nat_tests}
-use Rattle.units.specs.Ranges.{none, range, in_range, table, row}
+use Rattle.units.specs.Ranges.{form, kind, span, admits, is_figure, range, in_range}
+use Rattle.units.specs.declared.ranges.Kind.{Kind}
+use Rattle.units.specs.declared.ranges.Kind.TheVariants.{Figure, Name, Pool, OtherPool}
 use Rattle.units.specs.declared.ranges.Letter.{Letter}
-use Rattle.units.specs.declared.ranges.Letter.TheVariants.{Header, Customer, Expense, Credit, Shift, Grant, Transfer}
+use Rattle.units.specs.declared.ranges.Letter.TheVariants.{Header}
 use Rattle.figures.specs.Figure.{is_figure as a_figure, figure}
 use Rattle.figures.specs.declared.refusal.Refusal as figures
 use Rattle.records.specs.Pools.{pool_of}
@@ -23,8 +25,7 @@ use Rattle.rows.specs.declared.field.Field.{Field}
 use Rattle.rows.specs.declared.field.Field.TheVariants as held
 use Rattle.lines.specs.declared.fault.Fault.{Fault}
 use Rattle.lines.specs.declared.fault.Refusal.{Refusal}
-use Rattle.lines.specs.declared.fault.Refusal.TheVariants.{OutOfRange, UnknownPool}
-use Rattle.lines.specs.Forms.{Kind, Figure, Pool, OtherPool}
+use Rattle.lines.specs.declared.fault.Refusal.TheVariants.{NotAFigure, OutOfRange, UnknownPool}
 use Rattle.lines.specs.Answers.{of_figure, told, at_field}
 use Rattle.lines.specs.Questions.{name_byte, name_bytes, a_name, a_pool, typed, passes, asks, holds, refused, Fits, Compared}
 
@@ -51,36 +52,33 @@ written_figure n h =
     (cases_lt n 1)
 
 -- no range reaches 2 ^ 64
-abbrev below : ℕ × ℕ → Bool
-below r = ltb r.1 (2 ^ 64)
+abbrev pub below : Kind → Bool
+below κ = ltb (span κ).1 (2 ^ 64)
 
-abbrev all_below : List (ℕ × ℕ) → Bool
+abbrev pub all_below : List Kind → Bool
 all_below [] = true
-all_below (r ∷ rs) = below r && all_below rs
+all_below (κ ∷ κs) = below κ && all_below κs
 
-below_at : (rs : List (ℕ × ℕ)) (i : ℕ) → all_below rs ≡ true → (get_or rs i (0, 0)).1 < 2 ^ 64
+below_at : (κs : List Kind) (i : ℕ) → all_below κs ≡ true → (span (get_or κs i Name)).1 < 2 ^ 64
 below_at [] i e = omega arith
-below_at (r ∷ rs) zero e = ltb-true r.1 (2 ^ 64) (and_parts (below r) (all_below rs) e).0
-below_at (r ∷ rs) (suc i) e = below_at rs i (and_parts (below r) (all_below rs) e).1
+below_at (κ ∷ κs) zero e = ltb-true (span κ).1 (2 ^ 64) (and_parts (below κ) (all_below κs) e).0
+below_at (κ ∷ κs) (suc i) e = below_at κs i (and_parts (below κ) (all_below κs) e).1
 
-row_below : (l : Letter) → all_below (get_or table (row l) []) ≡ true
-row_below Header = refl
-row_below Customer = refl
-row_below Expense = refl
-row_below Credit = refl
-row_below Shift = refl
-row_below Grant = refl
-row_below Transfer = refl
+pub form_below : (l : Letter) → all_below (form l) ≡ true
+form_below Header = refl
+form_below _ = refl
 
 range_below : (l : Letter) (k : ℕ) → (range l k).1 < 2 ^ 64
 range_below l k =
-    cond_both (ltb k 2 || ltb 11 k) none (get_or (get_or table (row l) []) (k - 2) (0, 0)) (λ r. r.1 < 2 ^ 64) (λ e. omega arith) (λ e. below_at (get_or table (row l) []) (k - 2) (row_below l))
+    cond_both (ltb k 2) Name (get_or (form l) (k - 2) Name) (λ κ. (span κ).1 < 2 ^ 64) (λ e. omega arith) (λ e. below_at (form l) (k - 2) (form_below l))
+
+pub admits_below : (κ : Kind) (n : ℕ) → (span κ).1 < 2 ^ 64 → admits κ n ≡ true → n < 2 ^ 64
+admits_below κ n b e =
+    let h = leb-true n (span κ).1 (and_parts (leb (span κ).0 n) (leb n (span κ).1) e).1 in
+    omega arith
 
 pub in_range_below : (l : Letter) (k n : ℕ) → in_range l k n ≡ true → n < 2 ^ 64
-in_range_below l k n e =
-    let h = leb-true n (range l k).1 (and_parts (leb (range l k).0 n) (leb n (range l k).1) e).1 in
-    let b = range_below l k in
-    omega arith
+in_range_below l k n e = admits_below (kind l k) n (range_below l k) e
 
 -- a letter that names a pool is one byte
 pool_above : (c : ℕ) → 128 ≤ c → is_some (pool_of c) ≡ false
@@ -122,33 +120,39 @@ name_of_bytes bs b some few e =
     e ∙ same_from_clauses (list_all name_byte) name_bytes (λ x r. name_byte x && r) refl (λ _ _. refl) (λ _ _. refl) bs ∙ (rw (l, u) refl)
 
 -- what a field of a kind is asked
-module _ (κ : Kind) (l : Letter) (k : ℕ) where
-  pub figure_passes : (n : ℕ) (third : List ℕ) → Fits κ (held.Figure n) → in_range l k n ≡ passes κ l k (decimal n) third
-  figure_passes n third fit =
-      ap (in_range l k) (sym (value_of n fit.1)) ∙ ap (λ κ. passes κ l k (decimal n) third) (sym fit.0)
+pub figure_admits : (κ : Kind) (f before : List ℕ) → is_figure κ ≡ true → (typed κ f ≡ a_figure f) × (passes κ f before ≡ admits κ (digits_value 10 f)) × (refused κ ≡ OutOfRange)
+figure_admits (Figure m low high) f before e = (refl, refl, refl)
+figure_admits Name f before e = cc
+figure_admits Pool f before e = cc
+figure_admits OtherPool f before e = cc
 
-  pub pool_passes : (c : ℕ) (third : List ℕ) → (κ ≡ Pool) ⊎ (κ ≡ OtherPool) → (κ ≡ OtherPool → ⊥) → is_some (pool_of c) ≡ passes κ l k (encode c) third
-  pool_passes c third e first =
-      ⊎_elim (λ (p : κ ≡ Pool). sym (pool_encoded c) ∙ ap (λ κ. passes κ l k (encode c) third) (sym p)) (λ (p : κ ≡ OtherPool). absurd (first p)) e
+module _ (κ : Kind) where
+  pub figure_passes : (n : ℕ) (before : List ℕ) → Fits κ (held.Figure n) → admits κ n ≡ passes κ (decimal n) before
+  figure_passes n before fit =
+      ap (admits κ) (sym (value_of n fit.1)) ∙ sym (figure_admits κ (decimal n) before fit.0).1
+
+  pub pool_passes : (c : ℕ) (before : List ℕ) → (κ ≡ Pool) ⊎ (κ ≡ OtherPool) → (κ ≡ OtherPool → ⊥) → is_some (pool_of c) ≡ passes κ (encode c) before
+  pool_passes c before e first =
+      ⊎_elim (λ (p : κ ≡ Pool). sym (pool_encoded c) ∙ ap (λ κ. passes κ (encode c) before) (sym p)) (λ (p : κ ≡ OtherPool). absurd (first p)) e
 
 other_letter : (c q : ℕ) → (is_some (pool_of c) && not (eqb c q)) ≡ (a_pool (encode c) && not (eqb (get_or (encode c) 0 0) (get_or (encode q) 0 0)))
 other_letter c q = grind (arith, nat_tests, pool_encoded, same_first, pool_ascii)
 
-other_compared : (c : ℕ) (third : Field) → Fits Pool third → (is_some (pool_of c) && not (holds c third)) ≡ (a_pool (encode c) && not (eqb (get_or (encode c) 0 0) (get_or (spelled third) 0 0)))
+other_compared : (c : ℕ) (before : Field) → Fits Pool before → (is_some (pool_of c) && not (holds c before)) ≡ (a_pool (encode c) && not (eqb (get_or (encode c) 0 0) (get_or (spelled before) 0 0)))
 other_compared c (held.Text t) fit = cc
 other_compared c (held.Letter q) fit = other_letter c q
 other_compared c (held.Figure n) fit = let e = fit.0 in cc
 other_compared c (held.Minus n) fit = absurd fit
 
-pub other_passes : (κ : Kind) (l : Letter) (k c : ℕ) (third : Field) → κ ≡ OtherPool → Compared κ third → (is_some (pool_of c) && not (holds c third)) ≡ passes κ l k (encode c) (spelled third)
-other_passes κ l k c third e compared =
-    other_compared c third (subst (λ κ. Compared κ third) e compared) ∙ ap (λ κ. passes κ l k (encode c) (spelled third)) (sym e)
+pub other_passes : (κ : Kind) (c : ℕ) (before : Field) → κ ≡ OtherPool → Compared κ before → (is_some (pool_of c) && not (holds c before)) ≡ passes κ (encode c) (spelled before)
+other_passes κ c before e compared =
+    other_compared c before (subst (λ κ. Compared κ before) e compared) ∙ ap (λ κ. passes κ (encode c) (spelled before)) (sym e)
 
 pub fits_typed : (κ : Kind) (f : Field) → Fits κ f → typed κ (spelled f) ≡ true
 fits_typed κ (held.Text t) fit = ap (λ κ. typed κ t.now) fit
 fits_typed κ (held.Letter c) fit =
     ⊎_elim (λ (e : κ ≡ Pool). ap (λ κ. typed κ (encode c)) e) (λ (e : κ ≡ OtherPool). ap (λ κ. typed κ (encode c)) e) fit
-fits_typed κ (held.Figure n) fit = ap (λ κ. typed κ (decimal n)) fit.0 ∙ written_figure n fit.1
+fits_typed κ (held.Figure n) fit = (figure_admits κ (decimal n) [] fit.0).0 ∙ written_figure n fit.1
 fits_typed κ (held.Minus n) fit = absurd fit
 
 -- what is told of a field
@@ -159,35 +163,37 @@ told_by : (b : Bool) (k : ℕ) (e : Refusal) → telling b k e ≡ told (tt {0})
 told_by true k e = refl
 told_by false k e = refl
 
-module _ (κ : Kind) (l : Letter) (k : ℕ) where
-  told_as : (f third : List ℕ) (b : Bool) → typed κ f ≡ true → b ≡ passes κ l k f third → telling b k (refused κ) ≡ told (tt {0}) (at_field k (asks κ l k f third))
-  told_as f third b t p = rw (t, ← p) (told_by b k (refused κ))
+module _ (κ : Kind) (k : ℕ) where
+  told_as : (f before : List ℕ) (b : Bool) → typed κ f ≡ true → b ≡ passes κ f before → telling b k (refused κ) ≡ told (tt {0}) (at_field k (asks κ f before))
+  told_as f before b t p = rw (t, ← p) (told_by b k (refused κ))
 
-  pub told_figure : (n : ℕ) (third : List ℕ) → Fits κ (held.Figure n) → telling (in_range l k n) k OutOfRange ≡ told (tt {0}) (at_field k (asks κ l k (decimal n) third))
-  told_figure n third fit =
-      ap (λ κ. telling (in_range l k n) k (refused κ)) (sym fit.0)
-      ∙ told_as (decimal n) third (in_range l k n) (fits_typed κ (held.Figure n) fit) (figure_passes κ l k n third fit)
+  pub told_figure : (n : ℕ) (before : List ℕ) → Fits κ (held.Figure n) → telling (admits κ n) k OutOfRange ≡ told (tt {0}) (at_field k (asks κ (decimal n) before))
+  told_figure n before fit =
+      ap (telling (admits κ n) k) (sym (figure_admits κ [] [] fit.0).2)
+      ∙ told_as (decimal n) before (admits κ n) (fits_typed κ (held.Figure n) fit) (figure_passes κ n before fit)
 
-  told_letter : (c : ℕ) (third : List ℕ) (b : Bool) → (κ ≡ Pool) ⊎ (κ ≡ OtherPool) → b ≡ passes κ l k (encode c) third → telling b k UnknownPool ≡ told (tt {0}) (at_field k (asks κ l k (encode c) third))
-  told_letter c third b e p =
+  told_letter : (c : ℕ) (before : List ℕ) (b : Bool) → (κ ≡ Pool) ⊎ (κ ≡ OtherPool) → b ≡ passes κ (encode c) before → telling b k UnknownPool ≡ told (tt {0}) (at_field k (asks κ (encode c) before))
+  told_letter c before b e p =
       ap (telling b k) (⊎_elim (λ (s : κ ≡ Pool). ap refused (sym s)) (λ (s : κ ≡ OtherPool). ap refused (sym s)) e)
-      ∙ told_as (encode c) third b (fits_typed κ (held.Letter c) e) p
+      ∙ told_as (encode c) before b (fits_typed κ (held.Letter c) e) p
 
-  pub told_pool : (c : ℕ) (third : List ℕ) → (κ ≡ Pool) ⊎ (κ ≡ OtherPool) → (κ ≡ OtherPool → ⊥) → telling (is_some (pool_of c)) k UnknownPool ≡ told (tt {0}) (at_field k (asks κ l k (encode c) third))
-  told_pool c third e first = told_letter c third (is_some (pool_of c)) e (pool_passes κ l k c third e first)
+  pub told_pool : (c : ℕ) (before : List ℕ) → (κ ≡ Pool) ⊎ (κ ≡ OtherPool) → (κ ≡ OtherPool → ⊥) → telling (is_some (pool_of c)) k UnknownPool ≡ told (tt {0}) (at_field k (asks κ (encode c) before))
+  told_pool c before e first = told_letter c before (is_some (pool_of c)) e (pool_passes κ c before e first)
 
-  pub told_other : (c : ℕ) (third : Field) → (κ ≡ Pool) ⊎ (κ ≡ OtherPool) → (κ ≡ Pool → ⊥) → Compared κ third → telling (is_some (pool_of c) && not (holds c third)) k UnknownPool ≡ told (tt {0}) (at_field k (asks κ l k (encode c) (spelled third)))
-  told_other c third e second compared =
-      let other = ⊎_elim (λ (s : κ ≡ Pool). absurd (second s)) (λ (s : κ ≡ OtherPool). s) e in
-      told_letter c (spelled third) (is_some (pool_of c) && not (holds c third)) e (other_passes κ l k c third other compared)
+  pub told_other : (c : ℕ) (before : Field) → κ ≡ OtherPool → Compared κ before → telling (is_some (pool_of c) && not (holds c before)) k UnknownPool ≡ told (tt {0}) (at_field k (asks κ (encode c) (spelled before)))
+  told_other c before e compared =
+      told_letter c (spelled before) (is_some (pool_of c) && not (holds c before)) (inr e) (other_passes κ c before e compared)
 
 -- bytes that are no figure, or too large a one
-module _ (bytes : List ℕ) where
-  too_large : (l : Letter) (k : ℕ) → 2 ^ 64 ≤ digits_value 10 bytes → in_range l k (digits_value 10 bytes) ≡ false
-  too_large l k h = grind (arith, nat_tests, in_range_below)
+module _ (bytes : List ℕ) (l : Letter) (k : ℕ) (is : is_figure (kind l k) ≡ true) where
+  too_large : 2 ^ 64 ≤ digits_value 10 bytes → in_range l k (digits_value 10 bytes) ≡ false
+  too_large h = grind (arith, nat_tests, in_range_below)
 
-  pub figure_fault : (e : figures.Refusal) → Err e ≡ figure bytes → (l : Letter) (k : ℕ) (third : List ℕ) → asks Figure l k bytes third ≡ Some (of_figure e)
-  figure_fault e is l k third = grind (arith, nat_tests, too_large)
+  figure_asks : (before : List ℕ) → asks (kind l k) bytes before ≡ cond (a_figure bytes) (cond (in_range l k (digits_value 10 bytes)) None (Some OutOfRange)) (Some NotAFigure)
+  figure_asks before = let p = figure_admits (kind l k) bytes before is in rw (p.0, p.1, p.2) refl
+
+  pub figure_fault : (e : figures.Refusal) → Err e ≡ figure bytes → (before : List ℕ) → asks (kind l k) bytes before ≡ Some (of_figure e)
+  figure_fault e given before = rw (figure_asks before) (grind (arith, nat_tests, too_large))
 
 -- one byte below 128 is a letter
 pub one_byte : (bytes : List ℕ) → length bytes ≡ 1 → bytes ≡ get_or bytes 0 0 ∷ []
@@ -206,3 +212,7 @@ module _ {E : Type 0} where
   pub told_nothing : (o : Option E) (x : Unit {0}) → Ok x ≡ told (tt {0}) o → o ≡ None
   told_nothing None x is = refl
   told_nothing (Some d) x is = cc
+
+pub told_value : {X E : Type 0} (n x : X) (o : Option E) → Ok n ≡ told x o → n ≡ x
+told_value n x None is = cc
+told_value n x (Some e) is = cc

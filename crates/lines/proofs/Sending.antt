@@ -5,17 +5,19 @@ use Rattle.std.proofs.lemmas.Grind.{get_or_after_one}
 use Rattle.std.specs.Option.{ok_or}
 use Rattle.std.proofs.lemmas.Bool.{cases_Bool}
 use Rattle.units.specs.declared.ranges.Letter.{Letter}
+use Rattle.units.specs.Ranges.{count, kind}
+use Rattle.units.specs.declared.ranges.Kind.TheVariants.{Pool, OtherPool}
 use Rattle.rows.specs.Rows.{joined, spelled}
 use Rattle.rows.specs.Rows as rows
 use Rattle.rows.specs.declared.field.Field.{Field}
 use Rattle.rows.proofs.Joining.{blank}
 use Rattle.lines.specs.declared.fault.Fault.{Fault}
 use Rattle.lines.specs.declared.fault.Refusal.TheVariants.{NoRoom}
-use Rattle.lines.specs.Forms.{field, count, kind}
+use Rattle.lines.specs.Letters.{field}
 use Rattle.lines.specs.Lines.{faults}
 use Rattle.lines.specs.Questions.{asks, asked, Fits, Compared}
 use Rattle.lines.specs.Writing.{ShapedFrom, Shaped, WritesFields}
-use Rattle.lines.proofs.Walking.{some_fields, other_is, compared_from}
+use Rattle.lines.proofs.Walking.{other_is, compared_from}
 
 -- the shape of each field
 shaped_from_at : (l : Letter) (k : ℕ) (fs : List Field) (i : ℕ) → ShapedFrom l k fs → i < length fs → Fits (kind l (k + i)) (get_or fs i blank)
@@ -37,16 +39,20 @@ pub items_counted : (fs : List Field) → length (take (length fs - 1) (drop 1 f
 items_counted [] = refl
 items_counted (f ∷ fs) = let j : length (f ∷ fs) - 1 ≡ length fs = omega arith in omega (arith, length-take (length (f ∷ fs) - 1) fs)
 
-module _ (l : Letter) (fs : List Field) (shaped : Shaped l fs) (n : length fs ≡ count l) where
-  pub shaped_third : (k : ℕ) → Compared (kind l k) (get_or fs 2 blank)
-  shaped_third k =
-      let some = some_fields l [] in
-      compared_from (kind l k) (get_or fs 2 blank) (λ o. subst (λ κ. Fits κ (get_or fs 2 blank)) (ap (λ l. kind l 3) (other_is l k o).1) (shaped_at l fs 2 shaped (omega arith) (omega arith)))
+-- the field before a second pool holds the first
+before_is : (l : Letter) (fs : List Field) → Shaped l fs → (i : ℕ) → i < length fs → kind l (i + 2) ≡ OtherPool → Fits Pool (get_or fs i blank)
+before_is l fs shaped zero h o = let p = other_is l 0 o in cc
+before_is l fs shaped (suc i) h o =
+    subst (λ κ. Fits κ (get_or fs (suc i) blank)) (other_is l (suc i) o) (shaped_at l fs (suc i) shaped (omega arith) h)
 
+module _ (l : Letter) (fs : List Field) (shaped : Shaped l fs) (n : length fs ≡ count l) where
   -- the fields after the letter
   module _ (i : ℕ) (h : i < length (take (length fs - 1) (drop 1 fs))) where
     pub within : i + 1 < length fs
     within = omega (arith, length-take (length fs - 1) (drop 1 fs))
+
+    pub shaped_before : Compared (kind l (i + 2)) (get_or fs i blank)
+    shaped_before = compared_from (kind l (i + 2)) (get_or fs i blank) (λ o. before_is l fs shaped i (omega (arith, within)) o)
 
     item_is : get_or (take (length fs - 1) (drop 1 fs)) i blank ≡ get_or fs (i + 1) blank
     item_is =
@@ -62,12 +68,13 @@ module _ (l : Letter) (fs : List Field) (shaped : Shaped l fs) (n : length fs �
         subst (Fits (kind l (i + 2))) (sym item_is) (subst (λ k. Fits (kind l k) (get_or fs (i + 1) blank)) j (shaped_at l fs (i + 1) shaped (omega arith) within))
 
     -- what is asked of a field is asked of the line
-    pub asked_item : asks (kind l (i + 2)) l (i + 2) (spelled (get_or (take (length fs - 1) (drop 1 fs)) i blank)) (spelled (get_or fs 2 blank)) ≡ asked l (map spelled fs) (i + 2)
+    pub asked_item : asks (kind l (i + 2)) (spelled (get_or (take (length fs - 1) (drop 1 fs)) i blank)) (spelled (get_or fs i blank)) ≡ asked l (map spelled fs) (i + 2)
     asked_item =
-        let some = some_fields l [] in
+        let w = within in
         let j : i + 1 ≡ i + 2 - 1 = omega arith in
-        ap (λ f. asks (kind l (i + 2)) l (i + 2) f (spelled (get_or fs 2 blank))) (ap spelled item_is ∙ sym (get_or-map spelled fs (i + 1) blank [] within) ∙ ap (λ j. get_or (map spelled fs) j []) j)
-        ∙ ap (asks (kind l (i + 2)) l (i + 2) (field (map spelled fs) (i + 2))) (sym (get_or-map spelled fs 2 blank [] (omega arith)))
+        let b : i ≡ i + 2 - 1 - 1 = omega arith in
+        ap (λ f. asks (kind l (i + 2)) f (spelled (get_or fs i blank))) (ap spelled item_is ∙ sym (get_or-map spelled fs (i + 1) blank [] within) ∙ ap (λ j. get_or (map spelled fs) j []) j)
+        ∙ ap (asks (kind l (i + 2)) (field (map spelled fs) (i + 2))) (sym (get_or-map spelled fs i blank [] (omega arith)) ∙ ap (λ j. get_or (map spelled fs) j []) b)
 
   -- a field fails
   pub unsent_at : (buffer : List ℕ) (f : Fault) → faults l (map spelled fs) ≡ Some f → WritesFields l (map spelled fs) buffer (Err f) buffer

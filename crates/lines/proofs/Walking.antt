@@ -1,15 +1,17 @@
 -- A line is read field by field.
-use Rattle.std.proofs.Common.{◌≡◌, ℕ, zero, suc, ◌+◌, ◌-◌, ◌<◌, ◌≤◌, List, [], ◌∷◌, length, get_or, drop, Some, None, Ok, Err, Option, sym, refl, ap, ◌∙◌, subst, ⊎_elim, arith}
+use Rattle.std.proofs.Common.{◌≡◌, ℕ, zero, suc, ◌+◌, ◌-◌, ◌<◌, ◌≤◌, Bool, true, false, ltb, List, [], ◌∷◌, length, get_or, drop, Some, None, Ok, Err, Option, sym, refl, ap, ◌∙◌, subst, ⊎_elim, arith}
 use Rattle.std.proofs.lemmas.List.{length-drop, drop_more}
-use Rattle.std.proofs.lemmas.Bool.{cases_eq, eq-eqb, ne_eqb}
-use Rattle.std.proofs.lemmas.Bool.Decides.{nat_tests}
+use Rattle.std.proofs.lemmas.Bool.{cases_eq, cond-false, eq-eqb, ne_eqb, le-ltb}
 use Rattle.units.specs.declared.ranges.Letter.{Letter}
-use Rattle.units.specs.declared.ranges.Letter.TheVariants.{Header, Customer, Expense, Credit, Shift, Grant, Transfer}
+use Rattle.units.specs.declared.ranges.Letter.TheVariants.{Header}
+use Rattle.units.specs.Ranges.{form, count, kind}
+use Rattle.units.specs.declared.ranges.Kind.{Kind}
+use Rattle.units.specs.declared.ranges.Kind.TheVariants.{Figure, Name, Pool, OtherPool}
 use Rattle.rows.specs.declared.field.Field.{Field}
 use Rattle.lines.specs.declared.fault.Fault.{Fault}
 use Rattle.lines.specs.declared.fault.Refusal.{Refusal}
 use Rattle.lines.specs.declared.fault.Refusal.TheVariants.{FieldCount}
-use Rattle.lines.specs.Forms.{Kind, Figure, Name, Pool, OtherPool, field, letter_of, count, kind}
+use Rattle.lines.specs.Letters.{field, letter_of}
 use Rattle.lines.specs.Answers.{at_field, or_else}
 use Rattle.lines.specs.Lines.{made, faults, read_under, read_fields}
 use Rattle.lines.specs.Questions.{asked, first_fault, Fits, Compared}
@@ -67,12 +69,7 @@ module _ (l : Letter) (fs : List (List ℕ)) where
   pub some_fields : 3 ≤ count l
   some_fields = elim l as (λ l. 3 ≤ count l) [
     | Header ↦ omega arith
-    | Customer ↦ omega arith
-    | Expense ↦ omega arith
-    | Credit ↦ omega arith
-    | Shift ↦ omega arith
-    | Grant ↦ omega arith
-    | Transfer ↦ omega arith
+    | _ ↦ omega arith
   ]
 
   -- how the fields are read, once the letter is known
@@ -83,7 +80,7 @@ module _ (l : Letter) (fs : List (List ℕ)) where
     pub refused_at : (f : Fault) → length fs ≡ count l → faults l fs ≡ Some f → Err f ≡ read_fields fs
     refused_at f n e = let t = eq-eqb (length fs) (count l) n in sym (ap (λ o. read_under o fs) known ∙ (rw (t, e) refl))
 
-    pub read_through : length fs ≡ count l → faults l fs ≡ None → Ok (made (field fs) l) ≡ read_fields fs
+    pub read_through : length fs ≡ count l → faults l fs ≡ None → Ok (made l (drop 1 fs)) ≡ read_fields fs
     read_through n e = let t = eq-eqb (length fs) (count l) n in sym (ap (λ o. read_under o fs) known ∙ (rw (t, e) refl))
 
 -- a line with no fault passes at every field
@@ -99,31 +96,48 @@ first_inv l fs k (suc n) e j a b =
 pub clean_from : (l : Letter) (fs : List (List ℕ)) → faults l fs ≡ None → (k : ℕ) → 2 ≤ k → k ≤ count l → asked l fs k ≡ None
 clean_from l fs e k a b = let some = some_fields l fs in first_inv l fs 2 (count l - 1) e k a (omega arith)
 
--- only the second pool of a shift is compared with another field
-pub other_is : (l : Letter) (k : ℕ) → kind l k ≡ OtherPool → (k ≡ 4) × (l ≡ Shift)
-other_is Header k e = cc
-other_is Customer k e = grind (arith, nat_tests)
-other_is Expense k e = grind (arith, nat_tests)
-other_is Credit k e = grind (arith, nat_tests)
-other_is Shift k e = (grind (arith, nat_tests), refl)
-other_is Grant k e = cc
-other_is Transfer k e = cc
+-- a field's kind, by its place among those after the letter
+pub kind_is : (l : Letter) (i k : ℕ) → k ≡ i + 2 → kind l k ≡ get_or (form l) i Name
+kind_is l i k e =
+    let j : k - 2 ≡ i = omega arith in
+    cond-false (ltb k 2) Name (get_or (form l) (k - 2) Name) (le-ltb k 2 (omega arith)) ∙ ap (λ j. get_or (form l) j Name) j
 
--- and the first pool stands in the third field
-pub pool_is : (l : Letter) (k : ℕ) → kind l k ≡ Pool → k ≡ 3
-pool_is Header k e = cc
-pool_is Customer k e = grind (arith, nat_tests)
-pool_is Expense k e = grind (arith, nat_tests)
-pool_is Credit k e = grind (arith, nat_tests)
-pool_is Shift k e = grind (arith, nat_tests)
-pool_is Grant k e = cc
-pool_is Transfer k e = cc
+-- a second pool stands after a first
+abbrev paired : Kind → List Kind → Bool
+paired p [] = true
+paired p (Figure m low high ∷ κs) = paired (Figure m low high) κs
+paired p (Name ∷ κs) = paired Name κs
+paired p (Pool ∷ κs) = paired Pool κs
+paired Pool (OtherPool ∷ κs) = paired OtherPool κs
+paired _ (OtherPool ∷ κs) = false
 
-pub compared_from : (κ : Kind) (third : Field) → (κ ≡ OtherPool → Fits Pool third) → Compared κ third
-compared_from Figure third f = tt
-compared_from Name third f = tt
-compared_from Pool third f = tt
-compared_from OtherPool third f = f refl
+paired_at : (p : Kind) (κs : List Kind) (i : ℕ) → paired p κs ≡ true → get_or κs i Name ≡ OtherPool → get_or (p ∷ κs) i Name ≡ Pool
+paired_at p [] i e o = cc
+paired_at p (Figure m low high ∷ κs) zero e o = cc
+paired_at p (Name ∷ κs) zero e o = cc
+paired_at p (Pool ∷ κs) zero e o = cc
+paired_at Pool (OtherPool ∷ κs) zero e o = refl
+paired_at _ (OtherPool ∷ κs) zero e o = cc
+paired_at p (Figure m low high ∷ κs) (suc i) e o = paired_at (Figure m low high) κs i e o
+paired_at p (Name ∷ κs) (suc i) e o = paired_at Name κs i e o
+paired_at p (Pool ∷ κs) (suc i) e o = paired_at Pool κs i e o
+paired_at Pool (OtherPool ∷ κs) (suc i) e o = paired_at OtherPool κs i e o
+paired_at _ (OtherPool ∷ κs) (suc i) e o = cc
+
+form_paired : (l : Letter) → paired Name (form l) ≡ true
+form_paired Header = refl
+form_paired _ = refl
+
+pub other_is : (l : Letter) (i : ℕ) → kind l (i + 2) ≡ OtherPool → kind l (i + 1) ≡ Pool
+other_is l zero e = let p = paired_at Name (form l) 0 (form_paired l) (sym (kind_is l 0 2 refl) ∙ e) in cc
+other_is l (suc i) e =
+    kind_is l i (suc i + 1) (omega arith) ∙ paired_at Name (form l) (suc i) (form_paired l) (sym (kind_is l (suc i) (suc i + 2) refl) ∙ e)
+
+pub compared_from : (κ : Kind) (before : Field) → (κ ≡ OtherPool → Fits Pool before) → Compared κ before
+compared_from (Figure m low high) before f = tt
+compared_from Name before f = tt
+compared_from Pool before f = tt
+compared_from OtherPool before f = f refl
 
 -- the next field of some that are left
 module _ (fs : List (List ℕ)) (k : ℕ) (some : 2 ≤ k) (bytes : List ℕ) (rest : List (List ℕ)) (e : bytes ∷ rest ≡ drop (k - 1) fs) where

@@ -1,5 +1,5 @@
 pub mod Answers
-pub mod Forms
+pub mod Letters
 pub mod Questions
 pub mod Lines
 pub mod Reading

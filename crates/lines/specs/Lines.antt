@@ -1,7 +1,7 @@
 -- Lines by their contents: how they are read, and how they are written.
 use Rattle.std.specs.Prelude.{◌≡◌, ℕ, ◌-◌, Bool, true, cond, ◌&&◌, List, [], ◌∷◌, ◌++◌, length, take, drop, is_ok, Some, None, Ok, Err, decimal, Option, Result, ◌==◌, encode_utf8, nat_le, slice_index}
 use Rattle.std.specs.Str.Parse.{digits_value}
-use Rattle.units.specs.Ranges.{in_range}
+use Rattle.units.specs.Ranges.{count, admits, number_figure, total_figure, capability_figure, load_figure, cents_figure}
 use Rattle.units.specs.declared.ranges.Letter.{Letter}
 use Rattle.units.specs.declared.ranges.Letter.TheVariants.{Header, Customer, Expense, Credit, Shift, Grant, Transfer}
 use Rattle.book.specs.declared.figures.Figures.{Figures}
@@ -14,7 +14,7 @@ use Rattle.lines.specs.declared.fault.Refusal.TheVariants.{UnknownLetter, FieldC
 use Rattle.lines.specs.declared.line.Line.{Line}
 use Rattle.lines.specs.declared.line.Line.TheVariants as line
 use Rattle.lines.specs.Answers.{told, or_else}
-use Rattle.lines.specs.Forms.{field, byte_of, letter_of, count}
+use Rattle.lines.specs.Letters.{field, byte_of, letter_of}
 use Rattle.lines.specs.Questions.{first_fault}
 
 -- What a line holds: loads and cents, customers by name and figures, pools by their letters.
@@ -66,33 +66,34 @@ fields c = (byte_of (letter c) ∷ []) ∷ held c
 abbrev pub written : Contents → List ℕ
 written c = joined (fields c)
 
--- The contents of fields: the figure of a field, and the letter in it.
-module _ (at : ℕ → List ℕ) where
-  abbrev pub figure : ℕ → ℕ
-  figure k = digits_value 10 (at k)
+-- The contents of a field: its figure, and the letter in it.
+abbrev pub figure : List ℕ → ℕ
+figure f = digits_value 10 f
 
-  abbrev pub pool : ℕ → ℕ
-  pool k = slice_index (at k) 0
+abbrev pub pool : List ℕ → ℕ
+pool f = slice_index f 0
 
-  abbrev pub made : Letter → Contents
-  made Header = header (figure 2) (figure 3)
-  made Customer =
-      customer (at 3) (record {
-        number = figure 2;
-        measured = figure 4;
-        founding = figure 5;
-        conservation = figure 6;
-        retail = figure 7;
-        large = figure 8;
-        resources = figure 9;
-        elected = figure 10;
-        slice = figure 11;
-      })
-  made Expense = cost (figure 2) (posting.Expense (pool 3)) (figure 4)
-  made Credit = cost (figure 2) (posting.Credit (pool 3)) (figure 4)
-  made Shift = cost (figure 2) (posting.Shift (pool 3) (pool 4)) (figure 5)
-  made Grant = grant (figure 2) (figure 3)
-  made Transfer = transfer (figure 2) (figure 3) (figure 4)
+-- What the fields after a letter hold. It is asked only of as many fields as the letter's form has.
+abbrev pub made : Letter → List (List ℕ) → Contents
+made Header (total ∷ capability ∷ []) = header (figure total) (figure capability)
+made Customer (number ∷ name ∷ measured ∷ founding ∷ conservation ∷ retail ∷ large ∷ resources ∷ elected ∷ slice ∷ []) =
+    customer name (record {
+      number = figure number;
+      measured = figure measured;
+      founding = figure founding;
+      conservation = figure conservation;
+      retail = figure retail;
+      large = figure large;
+      resources = figure resources;
+      elected = figure elected;
+      slice = figure slice;
+    })
+made Expense (number ∷ p ∷ cents ∷ []) = cost (figure number) (posting.Expense (pool p)) (figure cents)
+made Credit (number ∷ p ∷ cents ∷ []) = cost (figure number) (posting.Credit (pool p)) (figure cents)
+made Shift (number ∷ p ∷ q ∷ cents ∷ []) = cost (figure number) (posting.Shift (pool p) (pool q)) (figure cents)
+made Grant (number ∷ load ∷ []) = grant (figure number) (figure load)
+made Transfer (giver ∷ receiver ∷ load ∷ []) = transfer (figure giver) (figure receiver) (figure load)
+made _ _ = header 0 0
 
 -- The first fault in the fields after the letter.
 abbrev pub faults : Letter → List (List ℕ) → Option Fault
@@ -102,7 +103,7 @@ faults l fs = first_fault l fs 2 (count l - 1)
 abbrev pub read_under : Option Letter → List (List ℕ) → Result Contents Fault
 read_under None fs = Err (record { field = 0; refusal = UnknownLetter })
 read_under (Some l) fs =
-    cond (length fs == count l) (told (made (field fs) l) (faults l fs)) (Err (record { field = 0; refusal = FieldCount }))
+    cond (length fs == count l) (told (made l (drop 1 fs)) (faults l fs)) (Err (record { field = 0; refusal = FieldCount }))
 
 abbrev pub read_fields : List (List ℕ) → Result Contents Fault
 read_fields fs = read_under (letter_of (field fs 1)) fs
@@ -126,12 +127,11 @@ write_asks l fs room =
 
 -- Whether every figure of a line is in its range.
 abbrev pub ranged : Contents → Bool
-ranged (header total capability) = in_range Header 2 total && in_range Header 3 capability
+ranged (header total capability) = admits total_figure total && admits capability_figure capability
 ranged (customer name f) = in_ranges f
-ranged (cost number p cents) = in_range Expense 2 number && in_range Expense 4 cents
-ranged (grant number load) = in_range Grant 2 number && in_range Grant 3 load
-ranged (transfer giver receiver load) =
-    in_range Transfer 2 giver && in_range Transfer 3 receiver && in_range Transfer 4 load
+ranged (cost number p cents) = admits number_figure number && admits cents_figure cents
+ranged (grant number load) = admits number_figure number && admits load_figure load
+ranged (transfer giver receiver load) = admits number_figure giver && admits number_figure receiver && admits load_figure load
 
 -- A line is written at the front of a buffer, and is read there again.
 pub record Writes (c : Contents) (buffer : List ℕ) (r : Result ℕ Fault) (buffer' : List ℕ) : Type 0 where

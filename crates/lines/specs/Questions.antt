@@ -1,8 +1,10 @@
 -- The questions that are put to the fields of a line.
-use Rattle.std.specs.Prelude.{◌≡◌, ℕ, zero, suc, ◌+◌, ◌^◌, ◌<◌, Bool, true, false, cond, not, ◌&&◌, ◌⊎◌, List, [], ◌∷◌, length, is_some, Some, None, Option, ◌==◌, nat_le, nat_lt, slice_index}
+use Rattle.std.specs.Prelude.{◌≡◌, ℕ, zero, suc, ◌+◌, ◌-◌, ◌^◌, ◌<◌, Bool, true, false, cond, not, ◌&&◌, ◌⊎◌, List, [], ◌∷◌, length, is_some, Some, None, Option, ◌==◌, nat_le, nat_lt, slice_index}
 use Rattle.std.specs.Str.Parse.{digits_value}
-use Rattle.units.specs.Ranges.{in_range}
+use Rattle.units.specs.Ranges.{kind, admits, is_figure}
 use Rattle.units.specs.declared.ranges.Letter.{Letter}
+use Rattle.units.specs.declared.ranges.Kind.{Kind}
+use Rattle.units.specs.declared.ranges.Kind.TheVariants.{Figure, Name, Pool, OtherPool}
 use Rattle.figures.specs.Figure.{is_figure as a_figure}
 use Rattle.records.specs.Pools.{pool_of}
 use Rattle.rows.specs.declared.field.Field.{Field}
@@ -10,7 +12,7 @@ use Rattle.rows.specs.declared.field.Field.TheVariants as held
 use Rattle.lines.specs.declared.fault.Fault.{Fault}
 use Rattle.lines.specs.declared.fault.Refusal.{Refusal}
 use Rattle.lines.specs.declared.fault.Refusal.TheVariants.{NotAFigure, OutOfRange, NotAName, UnknownPool}
-use Rattle.lines.specs.Forms.{Kind, Figure, Name, Pool, OtherPool, field, kind}
+use Rattle.lines.specs.Letters.{field}
 use Rattle.lines.specs.Answers.{at_field, or_else}
 
 -- A byte of a name: from 32 to 126, and no comma.
@@ -31,30 +33,30 @@ a_pool f = length f == 1 && is_some (pool_of (slice_index f 0))
 
 -- Question 5, which is put to figures.
 abbrev pub typed : Kind → List ℕ → Bool
-typed Figure f = a_figure f
+typed (Figure m low high) f = a_figure f
 typed Name f = true
 typed Pool f = true
 typed OtherPool f = true
 
--- Questions 6, 7 and 8; the second pool of a shift is unlike the first, which is field 3.
-abbrev pub passes : Kind → Letter → ℕ → List ℕ → List ℕ → Bool
-passes Figure l k f third = in_range l k (digits_value 10 f)
-passes Name l k f third = a_name f
-passes Pool l k f third = a_pool f
-passes OtherPool l k f third = a_pool f && not (slice_index f 0 == slice_index third 0)
+-- Questions 6, 7 and 8; the second pool of a shift is unlike the field before it.
+abbrev pub passes : Kind → List ℕ → List ℕ → Bool
+passes (Figure m low high) f before = admits (Figure m low high) (digits_value 10 f)
+passes Name f before = a_name f
+passes Pool f before = a_pool f
+passes OtherPool f before = a_pool f && not (slice_index f 0 == slice_index before 0)
 
 abbrev pub refused : Kind → Refusal
-refused Figure = OutOfRange
+refused (Figure m low high) = OutOfRange
 refused Name = NotAName
 refused Pool = UnknownPool
 refused OtherPool = UnknownPool
 
 -- What a field is refused for, if anything.
-abbrev pub asks : Kind → Letter → ℕ → List ℕ → List ℕ → Option Refusal
-asks kind l k f third = cond (typed kind f) (cond (passes kind l k f third) None (Some (refused kind))) (Some NotAFigure)
+abbrev pub asks : Kind → List ℕ → List ℕ → Option Refusal
+asks kind f before = cond (typed kind f) (cond (passes kind f before) None (Some (refused kind))) (Some NotAFigure)
 
 abbrev pub asked : Letter → List (List ℕ) → ℕ → Option Refusal
-asked l fs k = asks (kind l k) l k (field fs k) (field fs 3)
+asked l fs k = asks (kind l k) (field fs k) (field fs (k - 1))
 
 -- The first fault in n fields from field k on.
 abbrev pub first_fault : Letter → List (List ℕ) → ℕ → ℕ → Option Fault
@@ -65,15 +67,15 @@ first_fault l fs k (suc n) = or_else (at_field k (asked l fs k)) (first_fault l 
 abbrev pub Fits : Kind → Field → Type 0
 Fits kind (held.Text bytes) = kind ≡ Name
 Fits kind (held.Letter c) = (kind ≡ Pool) ⊎ (kind ≡ OtherPool)
-Fits kind (held.Figure n) = (kind ≡ Figure) × (n < 2 ^ 64)
+Fits kind (held.Figure n) = (is_figure kind ≡ true) × (n < 2 ^ 64)
 Fits kind (held.Minus n) = ⊥
 
 -- The field that a second pool is compared with holds a letter.
 abbrev pub Compared : Kind → Field → Type 0
-Compared Figure third = Unit {0}
-Compared Name third = Unit {0}
-Compared Pool third = Unit {0}
-Compared OtherPool third = Fits Pool third
+Compared (Figure m low high) before = Unit {0}
+Compared Name before = Unit {0}
+Compared Pool before = Unit {0}
+Compared OtherPool before = Fits Pool before
 
 -- Whether a field holds this letter.
 abbrev pub holds : ℕ → Field → Bool

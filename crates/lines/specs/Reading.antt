@@ -1,11 +1,13 @@
 -- Fields as they are taken, one after the other.
-use Rattle.std.specs.Prelude.{◌≡◌, ℕ, ◌+◌, ◌-◌, ◌≤◌, List, length, drop, Err, Option, Result, MatchResult}
+use Rattle.std.specs.Prelude.{◌≡◌, ℕ, zero, suc, ◌+◌, ◌≤◌, true, List, [], ◌∷◌, length, drop, Err, Option, Result, MatchResult}
 use Rattle.std.specs.Borrow.{Bor}
 use Rattle.rows.specs.Rows.{parted, parts_after}
+use Rattle.units.specs.Ranges.{form, count, kind, is_figure}
+use Rattle.units.specs.declared.ranges.Kind.{Kind}
 use Rattle.lines.specs.declared.fault.Fault.{Fault}
 use Rattle.lines.specs.declared.taking.Fields.{Fields}
 use Rattle.lines.specs.declared.line.Line.{Line}
-use Rattle.lines.specs.Forms.{Kind, field, count, kind}
+use Rattle.lines.specs.Letters.{field}
 use Rattle.lines.specs.Lines.{contents, made, read_fields}
 
 -- All fields of a line of which some are taken.
@@ -29,6 +31,11 @@ pub record Due (κ : Kind) (s : Fields) : Type 0 where
   pub few : s.place ≤ count s.letter
   pub kind : kind s.letter s.place ≡ κ
 
+-- The next field is a figure.
+pub record FigureDue (s : Fields) : Type 0 where
+  pub few : s.place ≤ count s.letter
+  pub figure : is_figure (kind s.letter s.place) ≡ true
+
 -- The line is refused with this fault.
 abbrev pub Refuses : Fields → Fault → Type 0
 Refuses s f = Err f ≡ read_fields (all s)
@@ -37,6 +44,11 @@ Refuses s f = Err f ≡ read_fields (all s)
 abbrev pub Takes : {X : Type 0} → ℕ → Fields → Fields → Result X Fault → (X → Type 0) → Type 0
 Takes n s t r Holds = MatchResult r (λ x. Taken n s t × Holds x) (Refuses s)
 
+-- So many fields, from the k-th on.
+abbrev pub fields_from : ℕ → ℕ → List (List ℕ) → List (List ℕ)
+fields_from zero k fs = []
+fields_from (suc n) k fs = field fs k ∷ fields_from n (k + 1) fs
+
 -- All fields are taken, and what is read is the line that they make.
 abbrev pub TakesAll : Fields → Fields → Result Line Fault → Type 0
-TakesAll s t r = Takes (count s.letter - 1) s t r (λ l. contents l ≡ made (field (all s)) s.letter)
+TakesAll s t r = Takes (length (form s.letter)) s t r (λ l. contents l ≡ made s.letter (fields_from (length (form s.letter)) 2 (all s)))

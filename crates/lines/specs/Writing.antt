@@ -1,11 +1,11 @@
 -- Fields as they are written.
 use Rattle.std.specs.Prelude.{◌≡◌, ℕ, ◌+◌, cond, List, [], ◌∷◌, ◌++◌, length, drop, is_ok, Result}
 use Rattle.units.specs.declared.ranges.Letter.{Letter}
+use Rattle.units.specs.Ranges.{kind}
 use Rattle.rows.specs.Rows.{joined}
 use Rattle.rows.specs.declared.field.Field.{Field}
 use Rattle.lines.specs.declared.fault.Fault.{Fault}
 use Rattle.lines.specs.Answers.{told}
-use Rattle.lines.specs.Forms.{kind}
 use Rattle.lines.specs.Lines.{write_asks}
 use Rattle.lines.specs.Questions.{Fits}
 

@@ -1,17 +1,17 @@
 //! The questions that are put to a field.
-ghost use Rattle.std.specs.Prelude.{◌≡◌, not, ◌&&◌, ◌==◌, [], is_some, if◌then◌else◌, Ok, Err, slice_index};
+ghost use Rattle.std.specs.Prelude.{◌≡◌, ℕ, List, true, not, ◌&&◌, ◌==◌, is_some, if◌then◌else◌, Ok, Err, slice_index};
 ghost use Rattle.std.specs.Str.Parse.{digits_value};
 ghost use Rattle.records.specs.Pools.{pool_of};
 ghost use Rattle.rows.specs.Rows.{spelled};
 ghost use Rattle.lines.specs.Answers.{told, at_field};
-ghost use Rattle.lines.specs.Forms.{kind, Figure};
+ghost use Rattle.units.specs.Ranges.{kind, is_figure};
 ghost use Rattle.lines.specs.Questions.{a_name, a_pool, holds, asks, Fits, Compared};
 ghost use Rattle.lines.specs.declared.fault.Refusal.TheVariants.{NotAName, UnknownPool};
 
 use crate::fault::{Fault, Refusal};
 use records::Pool;
 use rows::Field;
-use units::{Letter, in_range};
+use units::{Kind, Letter, in_range, kind_at};
 
 /// Whether bytes are a name: 1 to 24 of them, each from 32 to 126 and no comma.
 pub fn is_name(bytes: &[u8]) -> bool
@@ -51,23 +51,23 @@ fn answer(lawful: bool, place: usize, refusal: Refusal) -> Result<(), Fault>
 }
 
 /// Asks whether a field's figure is in its range (6), its name lawful (7), or
-/// its pool known and, in the second pool of a shift, unlike the first, which
-/// stands in the third field (8).
+/// its pool known and, in the second pool of a shift, unlike the field before
+/// it (8).
 pub(crate) fn ask(
     letter: Letter,
     place: usize,
     field: Field<'_>,
-    third: Field<'_>,
+    before: Field<'_>,
 ) -> Result<(), Fault>
-    requires { (Fits (kind letter place) field) × (Compared (kind letter place) third) }
-    ensures { result ≡ told tt (at_field place (asks (kind letter place) letter place (spelled field.entry) (spelled third.entry))) }
+    requires { (Fits (kind letter place) field) × (Compared (kind letter place) before) }
+    ensures { result ≡ told tt (at_field place (asks (kind letter place) (spelled field.entry) (spelled before.entry))) }
 {
     match field {
         Field::Figure(n) => answer(in_range(letter, place, n), place, Refusal::OutOfRange),
         Field::Text(name) => answer(is_name(name), place, Refusal::NotAName),
-        // By place: a field doesn't say which of a shift's pools it holds.
-        Field::Letter(pool) if place > 3 => answer(
-            is_other_pool(pool, third),
+        // By kind: a field doesn't say which of a shift's pools it holds.
+        Field::Letter(pool) if matches!(kind_at(letter, place), Kind::OtherPool) => answer(
+            is_other_pool(pool, before),
             place,
             Refusal::UnknownPool,
         ),
@@ -79,7 +79,8 @@ pub(crate) fn ask(
 /// The figure that some bytes are: digits only (5), and in the range of its
 /// field (6).
 pub(crate) fn figure_in(letter: Letter, place: usize, bytes: &[u8]) -> Result<u64, Refusal>
-    ensures { result ≡ told (digits_value 10 bytes.now) (asks Figure letter place bytes.now []) }
+    requires { is_figure (kind letter place) ≡ true }
+    ensures { (before : List ℕ) → result ≡ told (digits_value 10 bytes.now) (asks (kind letter place) bytes.now before) }
 {
     let n = figures::read(bytes)?;
     if !in_range(letter, place, n) {

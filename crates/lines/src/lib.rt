@@ -3,7 +3,7 @@
 
 mod asking;
 mod fault;
-mod forms;
+mod letters;
 mod line;
 mod reading;
 mod taking;

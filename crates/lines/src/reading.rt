@@ -1,11 +1,12 @@
 //! A line is read.
-ghost use Rattle.std.specs.Prelude.{◌≡◌, ◌<◌, ◌^◌, true, IfOk, None};
-ghost use Rattle.units.specs.Ranges.{range};
-ghost use Rattle.units.specs.declared.ranges.Letter.TheVariants.{Customer, Shift};
+ghost use Rattle.std.specs.Prelude.{◌≡◌, ◌+◌, ◌≤◌, ◌<◌, ◌^◌, true, IfOk, None};
+ghost use Rattle.units.specs.Ranges.{range, count, kind};
+ghost use Rattle.units.specs.declared.ranges.Kind.TheVariants.{Pool, OtherPool};
+ghost use Rattle.units.specs.declared.ranges.Letter.TheVariants.{Customer};
 ghost use Rattle.book.specs.declared.figures.Posting.TheVariants as posting;
-ghost use Rattle.lines.specs.Forms.{field, Figure};
+ghost use Rattle.lines.specs.Letters.{field};
 ghost use Rattle.lines.specs.Lines.{contents, written, fault_in, ranged, answer_of, line_of, figure, pool};
-ghost use Rattle.lines.specs.Reading.{all, Due, Takes, TakesAll};
+ghost use Rattle.lines.specs.Reading.{all, Due, FigureDue, Takes, TakesAll};
 
 use crate::fault::Fault;
 use crate::line::Line;
@@ -16,18 +17,19 @@ use units::Letter;
 impl<'a> Fields<'a> {
     // A figure that is a record's number.
     fn number(&mut self) -> Result<u32, Fault>
-        requires due { Due Figure self.old }
+        requires due { FigureDue self.old }
         requires small { (range self.old.letter self.old.place).1 < 2 ^ 32 }
-        ensures { Takes 1 self.old self.new result (λ n. n ≡ figure (field (all self.old)) self.old.place) }
+        ensures { Takes 1 self.old self.new result (λ n. n ≡ figure (field (all self.old) self.old.place)) }
     {
         Ok(self.figure()? as u32)
     }
 
     // The pools of a shift.
     fn shift(&mut self) -> Result<Posting, Fault>
-        requires letter { self.old.letter ≡ Shift }
-        requires place { self.old.place ≡ 3 }
-        ensures { Takes 2 self.old self.new result (λ p. p ≡ posting.Shift (pool (field (all self.old)) 3) (pool (field (all self.old)) 4)) }
+        requires first { Due Pool self.old }
+        requires few { self.old.place + 1 ≤ count self.old.letter }
+        requires second { kind self.old.letter (self.old.place + 1) ≡ OtherPool }
+        ensures { Takes 2 self.old self.new result (λ p. p ≡ posting.Shift (pool (field (all self.old) self.old.place)) (pool (field (all self.old) (self.old.place + 1)))) }
     {
         let first = self.pool()?;
         let second = self.other_pool(first)?;

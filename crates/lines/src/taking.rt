@@ -1,13 +1,13 @@
 //! The fields of a line are taken one by one.
 ghost use Rattle.std.specs.Prelude.{◌≡◌, ◌+◌, ◌-◌, ◌≤◌, drop, length, Some, None};
 ghost use Rattle.rows.specs.Rows.{parted, parts_after};
-ghost use Rattle.lines.specs.Forms.{field, letter_of};
+ghost use Rattle.lines.specs.Letters.{field, letter_of};
 ghost use Rattle.lines.specs.Questions.{first_fault};
 
 use crate::asking::{figure_in, name_in, other_pool_in, pool_in};
 use crate::fault::{Fault, Refusal};
-use crate::forms::{count, letter_of};
-use units::Letter;
+use crate::letters::letter_of;
+use units::{Letter, count};
 
 /// A line of which some fields are taken: the place of the next one, and what
 /// is left of the line. The fields before it pass.
@@ -26,10 +26,11 @@ pub(crate) struct Fields<'a> {
 
 impl<'a> Fields<'a> {
     ghost use Rattle.std.specs.Prelude.{MatchResult, Err};
-    ghost use Rattle.lines.specs.Forms.{count, Figure, Name, Pool, OtherPool};
+    ghost use Rattle.units.specs.Ranges.{count};
+    ghost use Rattle.units.specs.declared.ranges.Kind.TheVariants.{Name, Pool, OtherPool};
     ghost use Rattle.lines.specs.Lines.{read_fields, faults, figure, pool};
     ghost use Rattle.lines.specs.Questions.{asked};
-    ghost use Rattle.lines.specs.Reading.{all, Due, Next, Refuses, Taken, Takes};
+    ghost use Rattle.lines.specs.Reading.{all, Due, FigureDue, Next, Refuses, Taken, Takes};
 
     /// A line whose letter is known (3), before its second field.
     pub(crate) fn of(line: &'a [u8]) -> Result<Fields<'a>, Fault>
@@ -88,8 +89,8 @@ impl<'a> Fields<'a> {
     /// The next field, a figure. Inlined, its range is known where it is read.
     #[inline(always)]
     pub(crate) fn figure(&mut self) -> Result<u64, Fault>
-        requires { Due Figure self.old }
-        ensures { Takes 1 self.old self.new result (λ n. n ≡ figure (field (all self.old)) self.old.place) }
+        requires { FigureDue self.old }
+        ensures { Takes 1 self.old self.new result (λ n. n ≡ figure (field (all self.old) self.old.place)) }
     {
         let (bytes, rest) = self.peek()?;
         match figure_in(self.letter, self.place, bytes) {
@@ -119,7 +120,7 @@ impl<'a> Fields<'a> {
     /// The next field, a pool's letter.
     pub(crate) fn pool(&mut self) -> Result<char, Fault>
         requires { Due Pool self.old }
-        ensures { Takes 1 self.old self.new result (λ c. c ≡ pool (field (all self.old)) self.old.place) }
+        ensures { Takes 1 self.old self.new result (λ c. c ≡ pool (field (all self.old) self.old.place)) }
     {
         let (bytes, rest) = self.peek()?;
         match pool_in(bytes) {
@@ -132,11 +133,11 @@ impl<'a> Fields<'a> {
     }
 
     /// The next field, the letter of a pool other than the first, which stands
-    /// in the third field.
+    /// before it.
     pub(crate) fn other_pool(&mut self, first: char) -> Result<char, Fault>
         requires due { Due OtherPool self.old }
-        requires first { first ≡ pool (field (all self.old)) 3 }
-        ensures { Takes 1 self.old self.new result (λ c. c ≡ pool (field (all self.old)) self.old.place) }
+        requires first { first ≡ pool (field (all self.old) (self.old.place - 1)) }
+        ensures { Takes 1 self.old self.new result (λ c. c ≡ pool (field (all self.old) self.old.place)) }
     {
         let (bytes, rest) = self.peek()?;
         match other_pool_in(bytes, first) {

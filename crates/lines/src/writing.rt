@@ -1,7 +1,7 @@
 //! A line is written.
 ghost use Rattle.std.specs.Prelude.{◌≡◌, ◌≤◌, map, length};
 ghost use Rattle.rows.specs.Rows.{spelled};
-ghost use Rattle.lines.specs.Forms.{count};
+ghost use Rattle.units.specs.Ranges.{count};
 ghost use Rattle.lines.specs.Lines.{header, customer, cost, grant, transfer, contents, Writes};
 ghost use Rattle.lines.specs.Writing.{Shaped, WritesFields};
 
@@ -19,7 +19,7 @@ fn write_fields(letter: Letter, fields: &[Field<'_>], buffer: &mut [u8]) -> Resu
     ensures { WritesFields letter (map spelled fields.now) buffer.old result buffer.new }
 {
     for (i, field) in fields[1..].iter().enumerate() {
-        ask(letter, i + 2, *field, fields[2])?;
+        ask(letter, i + 2, *field, fields[i])?;
     }
     rows::write(fields, b"", buffer).ok_or(Fault::of_line(Refusal::NoRoom))
 }

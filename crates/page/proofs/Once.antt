@@ -3,8 +3,7 @@ use mathlib.Core.HLevel.{is_prop→PathP}
 use Rattle.std.proofs.Common.{◌≡◌, ℕ, ◌+◌, Bool, true, false, List, [], ◌∷◌, map, length, replicate, ℤ, pos, Ok, Err, Result, nat_lt, sym, refl, ap, ◌∙◌, subst, arith}
 use Rattle.std.proofs.lemmas.Bool.Decides.{nat_tests}
 use Rattle.std.specs.Coded.{×_prop, le_prop}
-use Rattle.units.specs.Ranges.{range, Within}
-use Rattle.units.specs.declared.ranges.Letter.TheVariants as letter
+use Rattle.units.specs.Ranges.{total_figure, capability_figure, Within}
 use Rattle.units.specs.declared.header.Header.{Header}
 use Rattle.records.specs.declared.customer.Customer.{Customer}
 use Rattle.records.specs.declared.cost_line.CostLine.{CostLine}
@@ -57,8 +56,8 @@ same_header a b total capability =
     λ i. record {
       founding_total = total i;
       capability = capability i;
-      total_within = is_prop→PathP (λ j. Within (range letter.Header 2) (total j)) (λ j. ×_prop le_prop le_prop) b.total_within a.total_within i;
-      capability_within = is_prop→PathP (λ j. Within (range letter.Header 3) (capability j)) (λ j. ×_prop le_prop le_prop) b.capability_within a.capability_within i;
+      total_within = is_prop→PathP (λ j. Within total_figure (total j)) (λ j. ×_prop le_prop le_prop) b.total_within a.total_within i;
+      capability_within = is_prop→PathP (λ j. Within capability_figure (capability j)) (λ j. ×_prop le_prop le_prop) b.capability_within a.capability_within i;
     }
 
 heads_once : (r : Reading) (h₁ h₂ : Result Header Cause) → Heads r h₁ → Heads r h₂ → h₂ ≡ h₁

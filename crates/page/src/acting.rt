@@ -1,7 +1,6 @@
 //! Lines after the customers' act on the open book.
 ghost use Rattle.std.specs.Prelude.{◌≡◌, ◌+◌, true, length, IfOk};
-ghost use Rattle.units.specs.Ranges.{in_range};
-ghost use Rattle.units.specs.declared.ranges.Letter.TheVariants.{Expense, Grant};
+ghost use Rattle.units.specs.Ranges.{admits, cents_figure, load_figure};
 ghost use Rattle.register.specs.Register.{room, records};
 ghost use Rattle.book.specs.Lines.{Posts};
 ghost use Rattle.book.specs.Marks.{Grants};
@@ -25,7 +24,7 @@ fn post<D>(
     posting: Posting,
     cents: u64,
 ) -> Result<(), Cause>
-    requires { in_range Expense 4 cents ≡ true }
+    requires { admits cents_figure cents ≡ true }
     ensures done { Answered (λ a. Posts book.old (room costs.old) (records costs.old) number posting cents a book.new (records costs.new)) tt result }
     ensures places { room costs.new ≡ room costs.old }
 {
@@ -40,7 +39,7 @@ fn grant<D>(
     number: u32,
     load: u64,
 ) -> Result<(), Cause>
-    requires { in_range Grant 3 load ≡ true }
+    requires { admits load_figure load ≡ true }
     ensures { Answered (λ a. Grants book.old (records customers.old) number load a book.new (records customers.new)) tt result }
 {
     book.grant(customers, number, Load::new(load)?)?;
@@ -55,7 +54,7 @@ fn transfer<D>(
     receiver: u32,
     load: u64,
 ) -> Result<(), Cause>
-    requires { in_range Grant 3 load ≡ true }
+    requires { admits load_figure load ≡ true }
     ensures { Answered (λ a. Moves (records customers.old) giver receiver load a (records customers.new)) tt result }
 {
     let parcel = book.lift(customers, giver, Load::new(load)?)?;

@@ -1,25 +1,24 @@
 //! Cost amounts.
 ghost use Rattle.std.specs.Prelude.{◌≡◌, ◌*◌, ◌^◌, ◌<◌, MatchResult};
-ghost use Rattle.units.specs.Ranges.{range, Within};
-ghost use Rattle.units.specs.declared.ranges.Letter.TheVariants.{Expense};
+ghost use Rattle.units.specs.Ranges.{cents_figure, Within};
 
 use crate::load::Load;
-use crate::ranges::{Letter, Refusal, in_range};
+use crate::ranges::{CENTS, Refusal};
 
 /// A cost amount: whole cents, from 1 to 100,000,000,000.
 // Not one type with `Load`, so that money never stands where a load is wanted.
 #[derive(Clone, Copy)]
 pub struct Cents {
     amount: u64,
-    ghost within: { Within (range Expense 4) amount },
+    ghost within: { Within cents_figure amount },
 }
 
 impl Cents {
     /// The cost amount of so many cents, or refusal 6.
     pub fn new(amount: u64) -> Result<Cents, Refusal>
-        ensures { MatchResult result (λ cents. (Within (range Expense 4) amount) × (cents.amount ≡ amount)) (λ _. Within (range Expense 4) amount → ⊥) }
+        ensures { MatchResult result (λ cents. (Within cents_figure amount) × (cents.amount ≡ amount)) (λ _. Within cents_figure amount → ⊥) }
     {
-        if !in_range(Letter::Expense, 4, amount) {
+        if !CENTS.admits(amount) {
             return Err(Refusal::OutOfRange);
         }
         Ok(Cents { amount })

@@ -1,10 +1,9 @@
 //! The header of a book.
 ghost use Rattle.std.specs.Prelude.{◌≡◌, MatchResult};
-ghost use Rattle.units.specs.Ranges.{range, Within};
-ghost use Rattle.units.specs.declared.ranges.Letter.TheVariants.{Header as LineH};
+ghost use Rattle.units.specs.Ranges.{total_figure, capability_figure, Within};
 
 use crate::load::Load;
-use crate::ranges::{Letter, Refusal, in_range};
+use crate::ranges::{CAPABILITY, FOUNDING_TOTAL, Refusal};
 
 /// The loads that a book is made for: the founding total, from 1 to
 /// 20,000,000 thousandths of an average megawatt, and the capability, the
@@ -13,18 +12,16 @@ use crate::ranges::{Letter, Refusal, in_range};
 pub struct Header {
     founding_total: u64,
     capability: u64,
-    ghost total_within: { Within (range LineH 2) founding_total },
-    ghost capability_within: { Within (range LineH 3) capability },
+    ghost total_within: { Within total_figure founding_total },
+    ghost capability_within: { Within capability_figure capability },
 }
 
 impl Header {
     /// The header of these loads, in thousandths, or refusal 6.
     pub fn new(founding_total: u64, capability: u64) -> Result<Header, Refusal>
-        ensures { MatchResult result (λ header. (Within (range LineH 2) founding_total) × (Within (range LineH 3) capability) × (header.founding_total ≡ founding_total) × (header.capability ≡ capability)) (λ _. Within (range LineH 2) founding_total → Within (range LineH 3) capability → ⊥) }
+        ensures { MatchResult result (λ header. (Within total_figure founding_total) × (Within capability_figure capability) × (header.founding_total ≡ founding_total) × (header.capability ≡ capability)) (λ _. Within total_figure founding_total → Within capability_figure capability → ⊥) }
     {
-        if !in_range(Letter::Header, 2, founding_total)
-            || !in_range(Letter::Header, 3, capability)
-        {
+        if !FOUNDING_TOTAL.admits(founding_total) || !CAPABILITY.admits(capability) {
             return Err(Refusal::OutOfRange);
         }
         Ok(Header {

@@ -9,4 +9,8 @@ mod ranges;
 pub use cents::Cents;
 pub use header::Header;
 pub use load::Load;
-pub use ranges::{Letter, Refusal, in_range, range};
+pub use ranges::{
+    CAPABILITY, CENTS, CONSERVATION, ELECTED, FOUNDING, FOUNDING_TOTAL, Kind, LARGE, LOAD, Letter,
+    MEASURED, Measure, NUMBER, RESOURCES, RETAIL, Refusal, SLICE, count, form, in_range, kind_at,
+    range,
+};

@@ -1,23 +1,22 @@
 //! Loads.
 ghost use Rattle.std.specs.Prelude.{◌≡◌, ◌*◌, ◌^◌, ◌<◌, MatchResult};
-ghost use Rattle.units.specs.Ranges.{range, Within};
-ghost use Rattle.units.specs.declared.ranges.Letter.TheVariants.{Grant};
+ghost use Rattle.units.specs.Ranges.{load_figure, Within};
 
-use crate::ranges::{Letter, Refusal, in_range};
+use crate::ranges::{LOAD, Refusal};
 
 /// A load: whole thousandths of an average megawatt, from 0 to 20,050,000.
 #[derive(Clone, Copy)]
 pub struct Load {
     pub(crate) thousandths: u64,
-    ghost within: { Within (range Grant 3) thousandths },
+    ghost within: { Within load_figure thousandths },
 }
 
 impl Load {
     /// The load of so many thousandths, or refusal 6.
     pub fn new(thousandths: u64) -> Result<Load, Refusal>
-        ensures { MatchResult result (λ load. (Within (range Grant 3) thousandths) × (load.thousandths ≡ thousandths)) (λ _. Within (range Grant 3) thousandths → ⊥) }
+        ensures { MatchResult result (λ load. (Within load_figure thousandths) × (load.thousandths ≡ thousandths)) (λ _. Within load_figure thousandths → ⊥) }
     {
-        if !in_range(Letter::Grant, 3, thousandths) {
+        if !LOAD.admits(thousandths) {
             return Err(Refusal::OutOfRange);
         }
         Ok(Load { thousandths })

@@ -2,16 +2,16 @@ use Rattle.std.proofs.Common.{◌≡◌, ◌+◌, ◌-◌, ◌∙◌, ap, sym, m
 use Rattle.std.proofs.lemmas.Result.{err_from_is_err_and}
 use Rattle.rows.specs.Rows.{spelled}
 use Rattle.lines.specs.Answers.{at_field}
-use Rattle.lines.specs.Forms.{count}
+use Rattle.units.specs.Ranges.{count}
 use Rattle.lines.specs.Questions.{first_fault}
 use Rattle.lines.proofs.Fields.{told_refused, told_nothing}
-use Rattle.lines.proofs.Sending.{shaped_item, shaped_third, within, asked_item, items_counted, unsent_at, sent}
+use Rattle.lines.proofs.Sending.{shaped_item, shaped_before, within, asked_item, items_counted, unsent_at, sent}
 use Rattle.lines.proofs.Walking.{clean_more, faults_next}
 use Rattle.lines.proofs.writing.write_fields.Goals as goal
 
 pub ask-requires : goal.ask-requires
 ask-requires c =
-    (shaped_item c.args.letter c.args.fields.now c.requires.0 c.requires.1 c.loop-i.i c.loop-i-test.true, shaped_third c.args.letter c.args.fields.now c.requires.0 c.requires.1 (c.loop-i.i + 2))
+    (shaped_item c.args.letter c.args.fields.now c.requires.0 c.requires.1 c.loop-i.i c.loop-i-test.true, shaped_before c.args.letter c.args.fields.now c.requires.0 c.requires.1 c.loop-i.i c.loop-i-test.true)
 
 pub returns-in_err-ask : goal.returns-in_err-ask
 returns-in_err-ask c =

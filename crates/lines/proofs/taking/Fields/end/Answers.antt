@@ -3,7 +3,7 @@ use Rattle.std.proofs.lemmas.List.{length-drop}
 use Rattle.rows.proofs.Parts.{some_parts, none_after}
 use Rattle.lines.specs.Reading.{all}
 use Rattle.lines.specs.Questions.{first_fault}
-use Rattle.lines.specs.Forms.{count}
+use Rattle.units.specs.Ranges.{count}
 use Rattle.lines.proofs.Walking.{miscounted}
 use Rattle.lines.proofs.taking.Fields.end.Goals as goal
 

@@ -1,6 +1,6 @@
-//! The letters of lines, and how many fields they have.
-ghost use Rattle.std.specs.Prelude.{◌≡◌, ◌≤◌};
-ghost use Rattle.lines.specs.Forms.{letter_of, count};
+//! The letters of lines.
+ghost use Rattle.std.specs.Prelude.{◌≡◌};
+ghost use Rattle.lines.specs.Letters.{letter_of};
 
 use units::Letter;
 
@@ -21,18 +21,5 @@ pub(crate) fn letter_of(bytes: &[u8]) -> Option<Letter>
         'G' => Some(Letter::Grant),
         'T' => Some(Letter::Transfer),
         _ => None,
-    }
-}
-
-/// How many fields a line has, its letter among them.
-pub(crate) fn count(letter: Letter) -> usize
-    ensures is { result ≡ count letter }
-    ensures few { result ≤ 11 }
-{
-    match letter {
-        Letter::Header | Letter::Grant => 3,
-        Letter::Expense | Letter::Credit | Letter::Transfer => 4,
-        Letter::Shift => 5,
-        Letter::Customer => 11,
     }
 }

@@ -1,4 +1,4 @@
--- The letters of lines, and what stands in their fields.
+-- The letters of lines, and fields by their numbers.
 use Rattle.std.specs.Prelude.{ℕ, ◌-◌, cond, List, [], length, Some, None, Option, ◌==◌, slice_index, slice_index_or}
 use Rattle.units.specs.declared.ranges.Letter.{Letter}
 use Rattle.units.specs.declared.ranges.Letter.TheVariants.{Header, Customer, Expense, Credit, Shift, Grant, Transfer}
@@ -24,29 +24,3 @@ letter_at b =
 
 abbrev pub letter_of : List ℕ → Option Letter
 letter_of f = cond (length f == 1) (letter_at (slice_index f 0)) None
-
--- How many fields a line has, its letter among them.
-abbrev pub count : Letter → ℕ
-count Header = 3
-count Customer = 11
-count Expense = 4
-count Credit = 4
-count Shift = 5
-count Grant = 3
-count Transfer = 4
-
--- What stands in a field: digits, a customer's name, a pool's letter, or that of a shift's second pool.
-pub data Kind : Type 0 where
-  Figure : Kind
-  Name : Kind
-  Pool : Kind
-  OtherPool : Kind
-
-abbrev pub kind : Letter → ℕ → Kind
-kind Header k = Figure
-kind Customer k = cond (k == 3) Name Figure
-kind Expense k = cond (k == 3) Pool Figure
-kind Credit k = cond (k == 3) Pool Figure
-kind Shift k = cond (k == 3) Pool (cond (k == 4) OtherPool Figure)
-kind Grant k = Figure
-kind Transfer k = Figure
