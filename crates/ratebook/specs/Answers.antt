@@ -44,11 +44,11 @@ module _ {D R W E : Type 0} (m : D → Meaning) (d : D) where
   abbrev pub Answers : (left held held' said said' : Option (List ℕ)) → Result ExitCode (Failure R W E) → Type 0
   Answers left held held' said said' (Ok code) =
       IfSome left (λ page. Comes m d page (λ o.
-          Appends held held' (text page o) × (exit_status code ≡ status_of o) × (status_of o ≡ 0 → Keeps said said')))
+      Appends held held' (text page o) × (exit_status code ≡ status_of o) × (status_of o ≡ 0 → Keeps said said')))
   Answers left held held' said said' (Err (Reading e)) = Keeps held held' × Keeps said said'
   Answers left held held' said said' (Err (Writing e code)) =
       IfSome left (λ page. Comes m d page (λ o.
-          AppendsFront held held' (text page o) × (exit_status code ≡ status_of o)))
+      AppendsFront held held' (text page o) × (exit_status code ≡ status_of o)))
       × Keeps said said'
   Answers left held held' said said' (Err (Reporting e)) =
       IfSome left (λ page. Comes m d page (λ o. Appends held held' (text page o) × (status_of o ≡ 1)))

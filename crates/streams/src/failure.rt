@@ -3,11 +3,10 @@ ghost use Rattle.std.specs.Process.{exit_status};
 ghost use Rattle.streams.specs.Ending.{Concludes};
 
 use std::error::Error;
-use std::fmt;
 use std::fmt::{Debug, Display};
-use std::io;
 use std::io::{ErrorKind, Write};
 use std::process::ExitCode;
+use std::{fmt, io};
 
 /// What failed of the three that a program is lent, with its error. A program that is written
 /// over any `Source` and any two of `Sink` has no other errors.
@@ -33,9 +32,7 @@ impl<R: Display, W: Display, E: Display> Display for Failure<R, W, E> {
 }
 
 impl<R: Debug + Display + Drop, W: Debug + Display + Drop, E: Debug + Display + Drop> Error
-    for Failure<R, W, E>
-{
-}
+    for Failure<R, W, E> {}
 
 /// Ends a program of this name: returns its status, and says on `errors` in a sentence what
 /// failed, with status 1. Where the output failed because its reader has gone away, as in
