@@ -3,13 +3,14 @@
 
 ghost use Rattle.std.specs.Prelude.{◌≡◌, ◌↔◌, IsTrue, IfOk, [], ◌∷◌, map, drop, codes, string_bytes};
 ghost use Rattle.std.specs.Vec.Iter.{into_iter_items};
+ghost use Rattle.share.specs.Shares.{Shares};
 
 use sharing::{Fault, answer};
 use std::alloc::{AllocError, Global};
 use std::env::Args;
 use std::process::ExitCode;
-use std::{env, io};
-use streams::{Failure, conclude};
+use std::env;
+use streams::{Failure, Sink, conclude};
 
 const USAGE: &str = "usage: share RULE TOTAL WEIGHT...
 
@@ -35,23 +36,35 @@ fn asks_help(words: &[String]) -> bool
     matches!(words, [word] if word.as_str() == "--help")
 }
 
-// Writes the table that the words ask for, or says why there is none.
-fn share(
-    rt: &HostRuntime,
+// Writes the table that the words ask for, or says why there is none, or how the program is used.
+fn share<R, W: Sink, E: Sink>(
+    heap: Global,
     words: &[String],
-) -> Result<ExitCode, Failure<io::Error, io::Error, io::Error>> {
-    match answer(rt.alloc(), words) {
-        Ok(table) => match print!(rt; "{table}") {
+    output: &mut W,
+    errors: &mut E,
+) -> Result<ExitCode, Failure<R, W::Error, E::Error>>
+    ensures { Shares (map string_bytes words.now) (W.held output.old) (W.held output.new) (E.held errors.old) (E.held errors.new) result }
+{
+    if asks_help(words) {
+        return match errors.write_line(USAGE) {
+            Ok(()) => Ok(ExitCode::SUCCESS),
+            Err(error) => Err(Failure::Reporting(error)),
+        };
+    }
+    match answer(heap, words) {
+        Ok(table) => match output.write_all(table.as_bytes()) {
             Ok(()) => Ok(ExitCode::SUCCESS),
             Err(error) => Err(Failure::Writing(error, ExitCode::SUCCESS)),
         },
         Err(fault) => {
             let said = match fault.number() {
-                Some(number) => eprintln!(rt; "share: refused with {number}: {fault}"),
-                None => eprintln!(rt; "share: {fault}"),
+                Some(number) => errors.write_line(format_args!("share: refused with {number}: {fault}")),
+                None => errors.write_line(format_args!("share: {fault}")),
             };
-            said.map_err(Failure::Reporting)?;
-            Ok(ExitCode::FAILURE)
+            match said {
+                Ok(()) => Ok(ExitCode::FAILURE),
+                Err(error) => Err(Failure::Reporting(error)),
+            }
         }
     }
 }
@@ -68,9 +81,6 @@ fn main(rt: HostRuntime) -> ExitCode {
         let _ = eprintln!(rt; "share: {}", Fault::NoMemory);
         return ExitCode::FAILURE;
     };
-    if asks_help(&words) {
-        let _ = eprintln!(rt; "{USAGE}");
-        return ExitCode::SUCCESS;
-    }
-    conclude("share", share(&rt, &words), &mut rt.stderr())
+    let answer = share(rt.alloc(), &words, &mut rt.stdout(), &mut rt.stderr());
+    conclude("share", answer, &mut rt.stderr())
 }
