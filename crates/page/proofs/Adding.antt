@@ -28,25 +28,19 @@ use Rattle.page.specs.Sums.{founding_total, capability, grant_in, cost_lines, Ad
 takes_entered : {cs : List Customer} {n : ℕ} {rs : List Reading} {t : Taken} → Takes 512 cs n rs (Ok t) → Entered cs → Entered t.customers
 takes_entered page.no_more e = e
 takes_entered (page.enters k more) e = takes_entered more (one_more 512 _ (omega arith) e k)
-takes_entered page.at_cost e = e
-takes_entered page.at_grant e = e
-takes_entered page.at_transfer e = e
+takes_entered (page.others k) e = e
 
 -- their lines grant nothing
 takes_grants : {cs : List Customer} {n : ℕ} {rs : List Reading} {t : Taken} → Takes 512 cs n rs (Ok t) → sum_by grant_in rs ≡ sum_by grant_in t.rest
 takes_grants page.no_more = refl
 takes_grants (page.enters k more) = takes_grants more
-takes_grants page.at_cost = refl
-takes_grants page.at_grant = refl
-takes_grants page.at_transfer = refl
+takes_grants (page.others k) = refl
 
 -- nor is any of them a cost line
 takes_costs : {cs : List Customer} {n : ℕ} {rs : List Reading} {t : Taken} → Takes 512 cs n rs (Ok t) → cost_lines rs ≡ cost_lines t.rest
 takes_costs page.no_more = refl
 takes_costs (page.enters k more) = takes_costs more
-takes_costs page.at_cost = refl
-takes_costs page.at_grant = refl
-takes_costs page.at_transfer = refl
+takes_costs (page.others k) = refl
 
 -- what the first line posts stands before what the others post
 cost_lines-cons : (r : Reading) (rs : List Reading) → cost_lines (r ∷ rs) ≡ cost_lines (r ∷ []) ++ cost_lines rs

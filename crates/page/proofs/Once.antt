@@ -46,9 +46,13 @@ takes_once {places} {n = n} (page.enters {rs = rs} k more) (page.enters {r = r�
 takes_once (page.enters k more) (page.not_entered k₂) = let e = enters_once k k₂ in absurd (cc)
 takes_once (page.not_entered k) (page.enters k₂ more₂) = let e = enters_once k k₂ in absurd (cc)
 takes_once (page.not_entered k) (page.not_entered k₂) = let e = enters_once k k₂ in cc
-takes_once page.at_cost page.at_cost = refl
-takes_once page.at_grant page.at_grant = refl
-takes_once page.at_transfer page.at_transfer = refl
+takes_once page.second_header (page.others k₂) = absurd k₂
+takes_once (page.enters k more) (page.others k₂) = absurd k₂
+takes_once (page.not_entered k) (page.others k₂) = absurd k₂
+takes_once (page.others k) page.second_header = absurd k
+takes_once (page.others k) (page.enters k₂ more₂) = absurd k
+takes_once (page.others k) (page.not_entered k₂) = absurd k
+takes_once (page.others k) (page.others k₂) = refl
 
 -- headers of the same loads are the same
 same_header : (a b : Header) → b.founding_total ≡ a.founding_total → b.capability ≡ a.capability → b ≡ a

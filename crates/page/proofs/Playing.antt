@@ -10,7 +10,7 @@ use Rattle.page.specs.declared.fault.Cause.{Cause}
 use Rattle.page.specs.declared.fault.Cause.TheVariants.{Page, Line, Book}
 use Rattle.page.specs.declared.fault.Fault.{Fault}
 use Rattle.page.specs.Remaining.{FirstOf}
-use Rattle.page.specs.Pages.{Reading, at_line, Taken, Takes, no_more, not_read, second_header, enters, not_entered, at_cost, at_grant, at_transfer, Open, Acts, Plays, unread, headed, late, acts, refused}
+use Rattle.page.specs.Pages.{Reading, at_line, Taken, Takes, no_more, not_read, second_header, enters, not_entered, others, Open, Acts, Plays, unread, headed, late, acts, refused}
 use Rattle.page.specs.Steps.{Answered, LineEnters, LineActs}
 
 never_ok : {X E : Type 0} {A : Type 0} (x : X) (e : E) → ◌≡◌ {A = Result X E} (Ok x) (Err e) → A
@@ -78,11 +78,11 @@ module _ (places : ℕ) (cs : List Customer) (n : ℕ) (rs : List Reading) (cs' 
   take_stops (Ok (header a c)) line = never_ok false _ line.0
   take_stops (Ok (customer name f)) line = let e = line.0 in let z : ◌≡◌ {A = ℕ} 0 1 = cc in absurd (omega arith)
   take_stops (Ok (cost number q cents)) line =
-      subst (λ ds. Takes places cs n (Ok (cost number q cents) ∷ rs) (Ok (record { customers = ds; number = n; rest = Ok (cost number q cents) ∷ rs }))) (sym line.1) at_cost
+      subst (λ ds. Takes places cs n (Ok (cost number q cents) ∷ rs) (Ok (record { customers = ds; number = n; rest = Ok (cost number q cents) ∷ rs }))) (sym line.1) (others tt)
   take_stops (Ok (grant number load)) line =
-      subst (λ ds. Takes places cs n (Ok (grant number load) ∷ rs) (Ok (record { customers = ds; number = n; rest = Ok (grant number load) ∷ rs }))) (sym line.1) at_grant
+      subst (λ ds. Takes places cs n (Ok (grant number load) ∷ rs) (Ok (record { customers = ds; number = n; rest = Ok (grant number load) ∷ rs }))) (sym line.1) (others tt)
   take_stops (Ok (transfer giver receiver load)) line =
-      subst (λ ds. Takes places cs n (Ok (transfer giver receiver load) ∷ rs) (Ok (record { customers = ds; number = n; rest = Ok (transfer giver receiver load) ∷ rs }))) (sym line.1) at_transfer
+      subst (λ ds. Takes places cs n (Ok (transfer giver receiver load) ∷ rs) (Ok (record { customers = ds; number = n; rest = Ok (transfer giver receiver load) ∷ rs }))) (sym line.1) (others tt)
 
   enter_refuses : (name : List ℕ) (f : Figures) (cause : Cause) → Answered {X = Bool} (λ a. Enters places cs f a cs') true (Err cause) → Takes places cs n (Ok (customer name f) ∷ rs) (Err (at_line n cause))
   enter_refuses name f (Page e) s = absurd s
@@ -117,6 +117,4 @@ module _ (places places' : ℕ) (cs : List Customer) (n : ℕ) (lines : List (Li
 pub takes_counts : {places : ℕ} {cs : List Customer} {n : ℕ} {rs : List Reading} {t : Taken} → Takes places cs n rs (Ok t) → t.number + length t.rest ≡ n + length rs
 takes_counts no_more = refl
 takes_counts (enters e more) = omega (arith, takes_counts more)
-takes_counts at_cost = refl
-takes_counts at_grant = refl
-takes_counts at_transfer = refl
+takes_counts (others k) = refl

@@ -47,6 +47,12 @@ pub record Closed (D : Type 0) : Type 0 where
   pub customers : List Customer
   pub charges : List ℤ
 
+-- A cost line, a grant and a transfer act on an open book.
+abbrev pub IsAct : Contents → Type 0
+IsAct (header t c) = ⊥
+IsAct (customer name f) = ⊥
+IsAct _ = Unit {0}
+
 -- The n-th line and those after it take customers in, where there are so many places.
 pub data Takes (places : ℕ) : List Customer → ℕ → List Reading → Result Taken Fault → Type 0 where
   no_more : {cs : List Customer} {n : ℕ} → Takes places cs n [] (Ok (record { customers = cs; number = n; rest = [] }))
@@ -54,19 +60,14 @@ pub data Takes (places : ℕ) : List Customer → ℕ → List Reading → Resul
   second_header : {cs : List Customer} {n t c : ℕ} {rs : List Reading} → Takes places cs n (Ok (header t c) ∷ rs) (Err (at_line n (Page HeaderPlace)))
   enters : {cs cs' : List Customer} {n : ℕ} {name : List ℕ} {f : Figures} {rs : List Reading} {r : Result Taken Fault} → Enters places cs f (Ok tt) cs' → Takes places cs' (n + 1) rs r → Takes places cs n (Ok (customer name f) ∷ rs) r
   not_entered : {cs cs' : List Customer} {n : ℕ} {name : List ℕ} {f : Figures} {rs : List Reading} {e : book.Refusal} → Enters places cs f (Err e) cs' → Takes places cs n (Ok (customer name f) ∷ rs) (Err (at_line n (Book e)))
-  at_cost : {cs : List Customer} {n number cents : ℕ} {p : Posting} {rs : List Reading} → Takes places cs n (Ok (cost number p cents) ∷ rs) (Ok (record { customers = cs; number = n; rest = Ok (cost number p cents) ∷ rs }))
-  at_grant : {cs : List Customer} {n number load : ℕ} {rs : List Reading} → Takes places cs n (Ok (grant number load) ∷ rs) (Ok (record { customers = cs; number = n; rest = Ok (grant number load) ∷ rs }))
-  at_transfer : {cs : List Customer} {n giver receiver load : ℕ} {rs : List Reading} → Takes places cs n (Ok (transfer giver receiver load) ∷ rs) (Ok (record { customers = cs; number = n; rest = Ok (transfer giver receiver load) ∷ rs }))
+  others : {cs : List Customer} {n : ℕ} {c : Contents} {rs : List Reading} → IsAct c → Takes places cs n (Ok c ∷ rs) (Ok (record { customers = cs; number = n; rest = Ok c ∷ rs }))
 
 -- The first line, by what it reads as: a header's loads.
 abbrev pub Heads : Reading → Result Header Cause → Type 0
 Heads (Err f) r = r ≡ Err (Line f)
 Heads (Ok (header t c)) (Ok h) = (h.founding_total ≡ t) × (h.capability ≡ c)
 Heads (Ok (header t c)) (Err e) = ⊥
-Heads (Ok (customer name f)) r = r ≡ Err (Page HeaderPlace)
-Heads (Ok (cost number p cents)) r = r ≡ Err (Page HeaderPlace)
-Heads (Ok (grant number load)) r = r ≡ Err (Page HeaderPlace)
-Heads (Ok (transfer giver receiver load)) r = r ≡ Err (Page HeaderPlace)
+Heads (Ok _) r = r ≡ Err (Page HeaderPlace)
 
 -- The line at which a book is founded: the first after the customers', or the last.
 abbrev pub founding_line : Taken → ℕ

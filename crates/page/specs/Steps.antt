@@ -8,7 +8,7 @@ use Rattle.book.specs.declared.refusal.Refusal as book
 use Rattle.book.specs.declared.stages.OpenBook.{OpenBook}
 use Rattle.book.specs.Customers.{Enters}
 use Rattle.rows.specs.Rows.{parts_after}
-use Rattle.lines.specs.Lines.{header, customer, cost, grant, transfer, line_of}
+use Rattle.lines.specs.Lines.{header, customer, line_of}
 use Rattle.page.specs.declared.fault.Cause.{Cause}
 use Rattle.page.specs.declared.fault.Cause.TheVariants.{Page, Line, Book}
 use Rattle.page.specs.declared.fault.Fault.{Fault}
@@ -41,9 +41,7 @@ abbrev pub LineEnters : ℕ → List Customer → Reading → Result Bool Cause 
 LineEnters places cs (Err f) r cs' = (r ≡ Err (Line f)) × (cs' ≡ cs)
 LineEnters places cs (Ok (header t c)) r cs' = (r ≡ Err (Page HeaderPlace)) × (cs' ≡ cs)
 LineEnters places cs (Ok (customer name f)) r cs' = Answered (λ a. Enters places cs f a cs') true r
-LineEnters places cs (Ok (cost number p cents)) r cs' = (r ≡ Ok false) × (cs' ≡ cs)
-LineEnters places cs (Ok (grant number load)) r cs' = (r ≡ Ok false) × (cs' ≡ cs)
-LineEnters places cs (Ok (transfer giver receiver load)) r cs' = (r ≡ Ok false) × (cs' ≡ cs)
+LineEnters places cs (Ok _) r cs' = (r ≡ Ok false) × (cs' ≡ cs)
 
 -- The outcome of lines that take customers in.
 abbrev pub taken : Result Lines Fault → List Customer → Result Taken Fault
@@ -62,12 +60,7 @@ module _ {D : Type 0} where
   LineActs places b cs ls (Err f) r b' cs' ls' = Nothing (Line f) r b b' cs cs' ls ls'
   LineActs places b cs ls (Ok (header t c)) r b' cs' ls' = Nothing (Page HeaderPlace) r b b' cs cs' ls ls'
   LineActs places b cs ls (Ok (customer name f)) r b' cs' ls' = Nothing (Page LateCustomer) r b b' cs cs' ls ls'
-  LineActs places b cs ls (Ok (cost number p cents)) r b' cs' ls' =
-      Answered (λ a. Acts places b cs ls (cost number p cents) a b' cs' ls') tt r
-  LineActs places b cs ls (Ok (grant number load)) r b' cs' ls' =
-      Answered (λ a. Acts places b cs ls (grant number load) a b' cs' ls') tt r
-  LineActs places b cs ls (Ok (transfer giver receiver load)) r b' cs' ls' =
-      Answered (λ a. Acts places b cs ls (transfer giver receiver load) a b' cs' ls') tt r
+  LineActs places b cs ls (Ok c) r b' cs' ls' = Answered (λ a. Acts places b cs ls c a b' cs' ls') tt r
 
   -- The outcome of lines that act: where they leave the book, or the fault.
   abbrev pub outcome : Result ℕ Fault → OpenBook D → List Customer → List CostLine → Result (Open D) Fault

@@ -4,7 +4,7 @@ use Rattle.records.specs.declared.cost_line.CostLine.{CostLine}
 use Rattle.records.specs.declared.pool.Pool.{Pool}
 use Rattle.book.specs.Lines.{new_line}
 use Rattle.book.specs.Sides.{cost}
-use Rattle.lines.specs.Lines.{header, customer, grant, transfer, line_of}
+use Rattle.lines.specs.Lines.{header, grant, line_of}
 use Rattle.lines.specs.Lines as lines
 use Rattle.runs.specs.History.{cost_by, expenses, credits}
 use Rattle.runs.specs.Runs.{sumℤ, charges_in, all_charges}
@@ -13,37 +13,23 @@ use Rattle.page.specs.Pages.{Reading, Closed, page_lines}
 
 -- The founding total and the capability, by the first line.
 abbrev pub founding_total : List Reading → ℕ
-founding_total [] = 0
-founding_total (Err f ∷ rs) = 0
 founding_total (Ok (header t c) ∷ rs) = t
-founding_total (Ok (customer name f) ∷ rs) = 0
-founding_total (Ok (lines.cost number p cents) ∷ rs) = 0
-founding_total (Ok (grant number load) ∷ rs) = 0
-founding_total (Ok (transfer giver receiver load) ∷ rs) = 0
+founding_total _ = 0
 
 abbrev pub capability : List Reading → ℕ
-capability [] = 0
-capability (Err f ∷ rs) = 0
 capability (Ok (header t c) ∷ rs) = c
-capability (Ok (customer name f) ∷ rs) = 0
-capability (Ok (lines.cost number p cents) ∷ rs) = 0
-capability (Ok (grant number load) ∷ rs) = 0
-capability (Ok (transfer giver receiver load) ∷ rs) = 0
+capability _ = 0
 
 -- The load that a line grants.
 abbrev pub grant_in : Reading → ℕ
-grant_in (Err f) = 0
-grant_in (Ok (header t c)) = 0
-grant_in (Ok (customer name f)) = 0
-grant_in (Ok (lines.cost number p cents)) = 0
 grant_in (Ok (grant number load)) = load
-grant_in (Ok (transfer giver receiver load)) = 0
+grant_in _ = 0
 
 -- The cost lines of a page: expenses, credits and shifts.
 abbrev pub cost_lines : List Reading → List CostLine
 cost_lines [] = []
 cost_lines (Ok (lines.cost number p cents) ∷ rs) = new_line number p cents ∷ cost_lines rs
-cost_lines (other ∷ rs) = cost_lines rs
+cost_lines (_ ∷ rs) = cost_lines rs
 
 -- The marks add up to the founding total and the grants, the RHWMs to the capability, and
 -- the charges of each pool to its cost, which is the one drawn from the page's cost lines.

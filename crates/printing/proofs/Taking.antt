@@ -49,9 +49,7 @@ takes_numbers {cs = cs} {t = t} (page.enters {cs' = cs'} {f = f} {rs = rs} k mor
     let front = IsPermutation-append_left (numbers rs) (map key cs ++ f.number ∷ []) (map key (added key (entered f) cs)) one in
     let step : IsPermutation (map key cs ++ f.number ∷ numbers rs) (map key cs' ++ numbers rs) = rw is.after (rw append_assoc at front) in
     IsPermutation-trans (map key cs ++ f.number ∷ numbers rs) (map key cs' ++ numbers rs) (map key t.customers) step (takes_numbers more none)
-takes_numbers {cs = cs} (page.at_cost {rs = rs}) none = none_more (map key cs) (numbers rs) none
-takes_numbers {cs = cs} (page.at_grant {rs = rs}) none = none_more (map key cs) (numbers rs) none
-takes_numbers {cs = cs} (page.at_transfer {rs = rs}) none = none_more (map key cs) (numbers rs) none
+takes_numbers {cs = cs} (page.others {c = c} {rs = rs} k) none = none_more (map key cs) (numbers (Ok c ∷ rs)) none
 
 -- in rising order,
 pub takes_ordered : {places : ℕ} {cs : List Customer} {n : ℕ} {rs : List Reading} {t : Taken} → Takes places cs n rs (Ok t) → InOrder key cs → InOrder key t.customers
@@ -59,9 +57,7 @@ takes_ordered page.no_more o = o
 takes_ordered {cs = cs} (page.enters {f = f} k more) o =
     let is = enters_new k in
     takes_ordered more (subst (InOrder key) (sym is.after) (ordered_added key (entered f) cs is.new o))
-takes_ordered page.at_cost o = o
-takes_ordered page.at_grant o = o
-takes_ordered page.at_transfer o = o
+takes_ordered (page.others k) o = o
 
 -- and no more than there are places for.
 pub takes_few : {places : ℕ} {cs : List Customer} {n : ℕ} {rs : List Reading} {t : Taken} → Takes places cs n rs (Ok t) → length cs ≤ places → length t.customers ≤ places
@@ -70,17 +66,17 @@ takes_few {cs = cs} (page.enters {cs' = cs'} {f = f} k more) few =
     let is = enters_new k in
     let long : length cs' ≡ length cs + 1 = ap length is.after ∙ length-added key (entered f) cs in
     takes_few more (omega (arith, is.free))
-takes_few page.at_cost few = few
-takes_few page.at_grant few = few
-takes_few page.at_transfer few = few
+takes_few (page.others k) few = few
 
 -- Where no line that is left is a customer's, the customers' lines stand before all others.
 pub takes_first : {places : ℕ} {cs : List Customer} {n : ℕ} {rs : List Reading} {t : Taken} → Takes places cs n rs (Ok t) → numbers t.rest ≡ [] → CustomersFirst rs
 takes_first page.no_more none = tt
 takes_first (page.enters k more) none = takes_first more none
-takes_first page.at_cost none = none
-takes_first page.at_grant none = none
-takes_first page.at_transfer none = none
+takes_first (page.others {c = lines.header t h} k) none = absurd k
+takes_first (page.others {c = lines.customer name f} k) none = absurd k
+takes_first (page.others {c = lines.cost number p cents} k) none = none
+takes_first (page.others {c = lines.grant number load} k) none = none
+takes_first (page.others {c = lines.transfer giver receiver load} k) none = none
 
 -- what a book writes into the records of customers leaves their numbers
 numbers_with : (w : Customer → ℕ → Customer) → ((c : Customer) (s : ℕ) → key (w c s) ≡ key c) → (ss : List ℕ) (cs : List Customer) → map key (with_shares w ss cs) ≡ map key cs

@@ -9,7 +9,7 @@ use Rattle.records.specs.Figures.{above_rhwm}
 use Rattle.book.specs.Customers.{key, nobody}
 use Rattle.book.specs.Rates.{Meaning}
 use Rattle.book.specs.Sides.{cost as pool_cost}
-use Rattle.lines.specs.Lines.{header, customer, cost, grant, transfer, line_of}
+use Rattle.lines.specs.Lines.{customer, line_of}
 use Rattle.listing.specs.Listing.{charge_at, customer_row, sum_row}
 use Rattle.runs.specs.History.{cost_by, expenses, credits}
 use Rattle.runs.specs.Runs.{sumℤ}
@@ -22,22 +22,14 @@ use Rattle.printing.specs.declared.printed.Printed.{Printed}
 -- The numbers of a page's customers, in the order of the page.
 abbrev pub numbers : List Reading → List ℕ
 numbers [] = []
-numbers (Err f ∷ rs) = numbers rs
-numbers (Ok (header t h) ∷ rs) = numbers rs
 numbers (Ok (customer name f) ∷ rs) = f.number ∷ numbers rs
-numbers (Ok (cost number p cents) ∷ rs) = numbers rs
-numbers (Ok (grant number load) ∷ rs) = numbers rs
-numbers (Ok (transfer giver receiver load) ∷ rs) = numbers rs
+numbers (_ ∷ rs) = numbers rs
 
 -- Their rows.
 abbrev pub rows_of : List Customer → List ℤ → List Reading → List ℕ
 rows_of cs charges [] = []
-rows_of cs charges (Err f ∷ rs) = rows_of cs charges rs
-rows_of cs charges (Ok (header t h) ∷ rs) = rows_of cs charges rs
 rows_of cs charges (Ok (customer name f) ∷ rs) = customer_row cs charges f.number name ++ rows_of cs charges rs
-rows_of cs charges (Ok (cost number p cents) ∷ rs) = rows_of cs charges rs
-rows_of cs charges (Ok (grant number load) ∷ rs) = rows_of cs charges rs
-rows_of cs charges (Ok (transfer giver receiver load) ∷ rs) = rows_of cs charges rs
+rows_of cs charges (_ ∷ rs) = rows_of cs charges rs
 
 module _ {D : Type 0} where
   -- The listing: these rows, and the row of sums.

@@ -1,31 +1,22 @@
 -- What a billed page brings to its listing.
-use Rattle.std.specs.Prelude.{◌≡◌, ◌≤◌, true, List, [], ◌∷◌, length, is_some, Ok, Err}
+use Rattle.std.specs.Prelude.{◌≡◌, ◌≤◌, true, List, [], ◌∷◌, length, is_some, Ok}
 use Rattle.std.specs.List.{All}
 use Rattle.register.specs.Records.{lookup, InOrder}
 use Rattle.book.specs.Customers.{key}
-use Rattle.lines.specs.Lines.{header, customer, cost, grant, transfer}
+use Rattle.lines.specs.Lines.{header, customer}
 use Rattle.page.specs.Pages.{Reading, Closed}
 use Rattle.printing.specs.Listings.{numbers}
 
 -- No customer's line stands after a line of another kind.
 abbrev pub CustomersFirst : List Reading → Type 0
 CustomersFirst [] = Unit {0}
-CustomersFirst (Err f ∷ rs) = numbers rs ≡ []
-CustomersFirst (Ok (header t h) ∷ rs) = numbers rs ≡ []
 CustomersFirst (Ok (customer name f) ∷ rs) = CustomersFirst rs
-CustomersFirst (Ok (cost number p cents) ∷ rs) = numbers rs ≡ []
-CustomersFirst (Ok (grant number load) ∷ rs) = numbers rs ≡ []
-CustomersFirst (Ok (transfer giver receiver load) ∷ rs) = numbers rs ≡ []
+CustomersFirst (_ ∷ rs) = numbers rs ≡ []
 
 -- A header, and then the customers' lines before all others.
 abbrev pub Headed : List Reading → Type 0
-Headed [] = ⊥
-Headed (Err f ∷ rs) = ⊥
 Headed (Ok (header t h) ∷ rs) = CustomersFirst rs
-Headed (Ok (customer name f) ∷ rs) = ⊥
-Headed (Ok (cost number p cents) ∷ rs) = ⊥
-Headed (Ok (grant number load) ∷ rs) = ⊥
-Headed (Ok (transfer giver receiver load) ∷ rs) = ⊥
+Headed _ = ⊥
 
 -- The customers of all its lines stand, in rising order, and are not too many.
 pub record Listable {D : Type 0} (rs : List Reading) (c : Closed D) : Type 0 where

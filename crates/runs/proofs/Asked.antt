@@ -1,9 +1,9 @@
 -- What an answer says of the questions of a call.
 use Rattle.std.proofs.Common.{◌≡◌, ℕ, Bool, true, false, cond, is_some, Some, None, Ok, Err, Option, Result, unwrap_or, sym, refl, ap, arith}
+use Rattle.std.specs.Result.{result_err}
 use Rattle.book.specs.declared.refusal.Refusal.{Refusal}
 use Rattle.book.specs.Answers.{told}
 use Rattle.book.specs.Rates.{staged}
-use Rattle.runs.specs.History.{refused}
 
 pub some_value : {A : Type 0} (o : Option A) (d : A) → is_some o ≡ true → o ≡ Some (unwrap_or o d)
 some_value None d h = grind arith
@@ -19,9 +19,9 @@ module _ {X : Type 0} where
   told_ok x y None h = (refl, (cc))
   told_ok x y (Some e) h = absurd (let z : ◌≡◌ {A = ℕ} 0 1 = cc in omega arith)
 
-  pub refused_told : (r : Result X Refusal) (x : X) (o : Option Refusal) → r ≡ told x o → refused r ≡ o
-  refused_told r x None h = ap refused h
-  refused_told r x (Some e) h = ap refused h
+  pub refused_told : (r : Result X Refusal) (x : X) (o : Option Refusal) → r ≡ told x o → result_err r ≡ o
+  refused_told r x None h = ap result_err h
+  refused_told r x (Some e) h = ap result_err h
 
 module _ {A B : Type 0} where
   pub staged_ok : (a : A) (b x : B) (o : Option Refusal) → Ok x ≡ staged a b o → (o ≡ None) × (x ≡ b)

@@ -1,8 +1,10 @@
 -- Calls with their answers, and what is drawn from a history of them, the newest first.
-use Rattle.std.specs.Prelude.{◌≡◌, ℕ, Bool, false, cond, ◌||◌, ◌⊎◌, List, [], ◌∷◌, ℤ, pos, ◌-ℤ◌, Some, None, Ok, Err, sum_by, Option, Result, ◌==◌}
+use Rattle.std.specs.Prelude.{◌≡◌, ℕ, Bool, ◌⊎◌, if◌then◌else◌, List, [], ◌∷◌, ℤ, pos, ◌-ℤ◌, Some, None, Ok, sum_by, Option, Result, ◌==◌}
+use Rattle.std.specs.Result.{result_err}
+use Rattle.std.specs.List.{list_any}
 use Rattle.records.specs.declared.cost_line.CostLine.{CostLine}
 use Rattle.records.specs.declared.cost_line.Entry.{Entry}
-use Rattle.records.specs.declared.cost_line.Entry.TheVariants.{Expense, Credit, Shift}
+use Rattle.records.specs.declared.cost_line.Entry.TheVariants.{Expense, Credit}
 use Rattle.records.specs.declared.pool.Pool.{Pool}
 use Rattle.records.specs.Pools.{pool_of, cost_of, credit_of}
 use Rattle.book.specs.declared.figures.Posting.{Posting}
@@ -22,59 +24,38 @@ pub data Event : Type 0 where
   closing : Event
   billing : (letter : ℕ) → Result (Unit {0}) Refusal → Event
 
-abbrev pub refused : {X : Type 0} → Result X Refusal → Option Refusal
-refused (Ok x) = None
-refused (Err e) = Some e
-
 -- Why a call was refused, if it was.
 abbrev pub refusal : Event → Option Refusal
-refusal (granting number load r) = refused r
-refusal (lifting number load r) = refused r
-refusal (landing p receiver r) = refused r
-refusal (returning p r) = refused r
-refusal (posting number p cents r) = refused r
-refusal (striking number r) = refused r
+refusal (granting number load r) = result_err r
+refusal (lifting number load r) = result_err r
+refusal (landing p receiver r) = result_err r
+refusal (returning p r) = result_err r
+refusal (posting number p cents r) = result_err r
+refusal (striking number r) = result_err r
 refusal (staying e) = Some e
 refusal closing = None
-refusal (billing letter r) = refused r
+refusal (billing letter r) = result_err r
 
 -- The load that a call granted.
 abbrev pub grant_of : Event → ℕ
 grant_of (granting number load (Ok u)) = load
-grant_of (granting number load (Err e)) = 0
-grant_of (lifting number load r) = 0
-grant_of (landing p receiver r) = 0
-grant_of (returning p r) = 0
-grant_of (posting number p cents r) = 0
-grant_of (striking number r) = 0
-grant_of (staying e) = 0
-grant_of closing = 0
-grant_of (billing letter r) = 0
+grant_of _ = 0
 
 -- The accepted grants.
 abbrev pub grants : List Event → ℕ
 grants events = sum_by grant_of events
 
 abbrev pub among : ℕ → List ℕ → Bool
-among n [] = false
-among n (m ∷ ms) = n == m || among n ms
+among n ms = list_any (λ m. n == m) ms
 
 -- The lines that accepted postings entered and no later accepted striking of their number removed;
 -- the numbers struck later than these events are given.
 abbrev pub drawn : List ℕ → List Event → List CostLine
 drawn struck [] = []
-drawn struck (granting number load r ∷ es) = drawn struck es
-drawn struck (lifting number load r ∷ es) = drawn struck es
-drawn struck (landing p receiver r ∷ es) = drawn struck es
-drawn struck (returning p r ∷ es) = drawn struck es
 drawn struck (posting number p cents (Ok u) ∷ es) =
-    cond (among number struck) (drawn struck es) (new_line number p cents ∷ drawn struck es)
-drawn struck (posting number p cents (Err e) ∷ es) = drawn struck es
+    if among number struck then drawn struck es else (new_line number p cents ∷ drawn struck es)
 drawn struck (striking number (Ok u) ∷ es) = drawn (number ∷ struck) es
-drawn struck (striking number (Err e) ∷ es) = drawn struck es
-drawn struck (staying e ∷ es) = drawn struck es
-drawn struck (closing ∷ es) = drawn struck es
-drawn struck (billing letter r ∷ es) = drawn struck es
+drawn struck (_ ∷ es) = drawn struck es
 
 abbrev pub lines_of : List Event → List CostLine
 lines_of events = drawn [] events
@@ -87,13 +68,11 @@ cost_by lines p =
 -- The expenses, and the credits, among them; a shift is neither.
 abbrev pub expense_in : Entry → ℕ → ℕ
 expense_in (Expense p) n = n
-expense_in (Credit p) n = 0
-expense_in (Shift p q) n = 0
+expense_in _ n = 0
 
 abbrev pub credit_in : Entry → ℕ → ℕ
-credit_in (Expense p) n = 0
 credit_in (Credit p) n = n
-credit_in (Shift p q) n = 0
+credit_in _ n = 0
 
 abbrev pub expenses : List CostLine → ℕ
 expenses lines = sum_by (λ l. expense_in l.entry l.cents) lines
@@ -103,16 +82,8 @@ credits lines = sum_by (λ l. credit_in l.entry l.cents) lines
 
 -- The pool that a call billed.
 abbrev pub bill_of : Event → Option Pool
-bill_of (granting number load r) = None
-bill_of (lifting number load r) = None
-bill_of (landing p receiver r) = None
-bill_of (returning p r) = None
-bill_of (posting number p cents r) = None
-bill_of (striking number r) = None
-bill_of (staying e) = None
-bill_of closing = None
 bill_of (billing letter (Ok u)) = pool_of letter
-bill_of (billing letter (Err e)) = None
+bill_of _ = None
 
 -- A pool is billed once a bill of it is accepted.
 abbrev pub Billed : Pool → List Event → Type 0
