@@ -15,11 +15,11 @@ closed b = record { divider = b.divider; header = b.header; granted = b.granted;
 
 -- With a grant more.
 abbrev pub granting : {D : Type 0} → OpenBook D → ℕ → OpenBook D
-granting b load = record { divider = b.divider; header = b.header; granted = b.granted + load; costs = b.costs; credits = b.credits }
+granting b load = record b { granted = b.granted + load }
 
 -- With a cost line more, or less.
 abbrev pub posting : {D : Type 0} → OpenBook D → Entry → ℕ → OpenBook D
-posting b e n = record { divider = b.divider; header = b.header; granted = b.granted; costs = posted_costs b.costs e n; credits = posted_credits b.credits e n }
+posting b e n = record b { costs = posted_costs b.costs e n; credits = posted_credits b.credits e n }
 
 abbrev pub striking : {D : Type 0} → OpenBook D → Entry → ℕ → OpenBook D
-striking b e n = record { divider = b.divider; header = b.header; granted = b.granted; costs = struck_costs b.costs e n; credits = struck_credits b.credits e n }
+striking b e n = record b { costs = struck_costs b.costs e n; credits = struck_credits b.credits e n }

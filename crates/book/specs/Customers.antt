@@ -70,11 +70,11 @@ stands customers n = is_some (lookup key n customers)
 
 -- With another mark and load on the way.
 abbrev pub marked : Customer → ℕ → ℕ → Customer
-marked c mark transit = record { number = c.number; measured = c.measured; founding = c.founding; conservation = c.conservation; retail = c.retail; large = c.large; resources = c.resources; elected = c.elected; slice = c.slice; mark = mark; transit = transit; rhwm = c.rhwm }
+marked c mark transit = record c { mark = mark; transit = transit }
 
 -- With another RHWM.
 abbrev pub rated : Customer → ℕ → Customer
-rated c rhwm = record { number = c.number; measured = c.measured; founding = c.founding; conservation = c.conservation; retail = c.retail; large = c.large; resources = c.resources; elected = c.elected; slice = c.slice; mark = c.mark; transit = c.transit; rhwm = rhwm }
+rated c rhwm = record c { rhwm = rhwm }
 
 -- Each record with the share at its place written into it.
 abbrev pub with_shares : (Customer → ℕ → Customer) → List ℕ → List Customer → List Customer

@@ -1,6 +1,7 @@
 -- Founding, closing and billing: what is divided, by which weights, and where it goes.
-use Rattle.std.specs.Prelude.{◌≡◌, ℕ, ◌+◌, ◌*◌, Bool, cond, not, ◌&&◌, ◌||◌, List, [], ◌∷◌, ◌++◌, map, length, take, drop, replicate, ℤ, pos, negsuc, neg_ℤ, is_some, Some, None, Ok, Err, sum_by, sum, Option, Result, ◌==◌, nat_le, nat_lt}
+use Rattle.std.specs.Prelude.{◌≡◌, ℕ, ◌+◌, ◌*◌, Bool, cond, not, ◌&&◌, ◌||◌, List, [], ◌∷◌, ◌++◌, map, length, take, drop, replicate, ℤ, pos, negsuc, neg_ℤ, is_some, is_none, Some, None, Ok, Err, sum_by, sum, Option, Result, ◌==◌, nat_le, nat_lt}
 use Rattle.std.specs.Option.{unwrap_or}
+use Rattle.std.specs.List.{splice}
 use Rattle.divider.specs.Questions.{limit}
 use Rattle.records.specs.declared.customer.Customer.{Customer}
 use Rattle.records.specs.declared.pool.Pool.{Pool}
@@ -44,7 +45,7 @@ staged a b None = Ok b
 staged a b (Some e) = Err (a, e)
 
 abbrev pub passes : Option Refusal → Bool
-passes o = not (is_some o)
+passes o = is_none o
 
 module _ {D : Type 0} (m : D → Meaning) where
   abbrev pub found_asks : Intake D → List Customer → List ℕ → List ℕ → Option Refusal
@@ -91,7 +92,7 @@ abbrev pub part : {A : Type 0} → List A → ℕ → ℕ → List A
 part sheet from n = take n (drop from sheet)
 
 abbrev pub written : {A : Type 0} → List A → ℕ → List A → List A
-written sheet from values = take from sheet ++ (values ++ drop (from + length values) sheet)
+written sheet from values = splice sheet from (from + length values) values
 
 -- The pool that a letter names, where it names one.
 abbrev pub pool_in : ℕ → Pool

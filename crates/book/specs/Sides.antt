@@ -1,5 +1,5 @@
 -- The sides of the pools, and what a cost line does to them.
-use Rattle.std.specs.Prelude.{ℕ, ◌+◌, ◌-◌, Bool, cond, ◌&&◌, ℤ, pos, ◌-ℤ◌, Some, None, Option, ◌==◌, nat_le}
+use Rattle.std.specs.Prelude.{ℕ, ◌+◌, ◌-◌, Bool, cond, ◌&&◌, ℤ, pos, ◌-ℤ◌, Some, None, Option, option_map, ◌==◌, nat_le}
 use Rattle.records.specs.declared.pool.Pool.{Pool}
 use Rattle.records.specs.declared.pool.Pool.TheVariants.{Composite, NonSlice, Slice, Tier2}
 use Rattle.records.specs.declared.cost_line.Entry.{Entry}
@@ -20,10 +20,10 @@ no_sides = record { composite = 0; nonslice = 0; slice = 0; tier2 = 0 }
 
 -- With an amount in one pool; with an amount more there, or less.
 abbrev pub with_side : Sides → Pool → ℕ → Sides
-with_side s Composite n = record { composite = n; nonslice = s.nonslice; slice = s.slice; tier2 = s.tier2 }
-with_side s NonSlice n = record { composite = s.composite; nonslice = n; slice = s.slice; tier2 = s.tier2 }
-with_side s Slice n = record { composite = s.composite; nonslice = s.nonslice; slice = n; tier2 = s.tier2 }
-with_side s Tier2 n = record { composite = s.composite; nonslice = s.nonslice; slice = s.slice; tier2 = n }
+with_side s Composite n = record s { composite = n }
+with_side s NonSlice n = record s { nonslice = n }
+with_side s Slice n = record s { slice = n }
+with_side s Tier2 n = record s { tier2 = n }
 
 abbrev pub raised : Sides → Pool → ℕ → Sides
 raised s p n = with_side s p (side s p + n)
@@ -85,15 +85,7 @@ paired None q = None
 paired (Some p) None = None
 paired (Some p) (Some q) = cond (order p == order q) None (Some (entry.Shift p q))
 
-abbrev pub expense_entry : Option Pool → Option Entry
-expense_entry None = None
-expense_entry (Some p) = Some (entry.Expense p)
-
-abbrev pub credit_entry : Option Pool → Option Entry
-credit_entry None = None
-credit_entry (Some p) = Some (entry.Credit p)
-
 abbrev pub entry_of : Posting → Option Entry
-entry_of (Expense p) = expense_entry (pool_of p)
-entry_of (Credit p) = credit_entry (pool_of p)
+entry_of (Expense p) = option_map entry.Expense (pool_of p)
+entry_of (Credit p) = option_map entry.Credit (pool_of p)
 entry_of (Shift p q) = paired (pool_of p) (pool_of q)

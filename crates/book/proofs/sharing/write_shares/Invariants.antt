@@ -1,6 +1,5 @@
 use Rattle.std.proofs.Common.{take}
 use Rattle.register.specs.Register.{records, Kept}
-use Rattle.book.specs.Customers.{key}
 use Rattle.book.specs.Written.{Written}
 use Rattle.book.proofs.sharing.write_shares.Given as goal
 

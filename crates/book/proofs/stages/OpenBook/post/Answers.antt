@@ -1,5 +1,4 @@
 use Rattle.register.proofs.Change.{kept_same}
-use Rattle.book.specs.Lines.{key}
 use Rattle.book.proofs.stages.OpenBook.post.Goals as goal
 
 pub returns-then-is_ok-clause-kept : goal.returns-then-is_ok-clause-kept
