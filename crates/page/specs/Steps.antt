@@ -22,8 +22,7 @@ abbrev pub Bodies : List ℕ → Result (Bor (List ℕ)) Refusal → Type 0
 Bodies page (Ok body) = (length page ≤ 65536) × (is_ended page ≡ true) × (body.now ≡ take (length page - 1) page)
 Bodies page (Err TooLong) = 65536 < length page
 Bodies page (Err Unended) = (length page ≤ 65536) × (is_ended page ≡ false)
-Bodies page (Err HeaderPlace) = ⊥
-Bodies page (Err LateCustomer) = ⊥
+Bodies page (Err _) = ⊥
 
 -- What lines that are left read as.
 abbrev pub readings : Lines → List Reading
@@ -32,9 +31,8 @@ readings lines = map line_of (parts_after 10 lines.rest)
 -- The answer of a call of the book, as a line gives it.
 abbrev pub Answered : {X : Type 0} → (Result (Unit {0}) book.Refusal → Type 0) → X → Result X Cause → Type 0
 Answered P x (Ok y) = (y ≡ x) × P (Ok tt)
-Answered P x (Err (Page e)) = ⊥
-Answered P x (Err (Line e)) = ⊥
 Answered P x (Err (Book e)) = P (Err e)
+Answered P x (Err _) = ⊥
 
 -- What a line does while customers are taken in, by what it reads as: whether it enters one.
 abbrev pub LineEnters : ℕ → List Customer → Reading → Result Bool Cause → List Customer → Type 0
