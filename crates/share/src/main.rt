@@ -7,9 +7,9 @@ ghost use Rattle.share.specs.Shares.{Shares};
 
 use sharing::{Fault, answer};
 use std::alloc::{AllocError, Global};
+use std::env;
 use std::env::Args;
 use std::process::ExitCode;
-use std::env;
 use streams::{Failure, Sink, conclude};
 
 const USAGE: &str = "usage: share RULE TOTAL WEIGHT...
@@ -58,7 +58,9 @@ fn share<R, W: Sink, E: Sink>(
         },
         Err(fault) => {
             let said = match fault.number() {
-                Some(number) => errors.write_line(format_args!("share: refused with {number}: {fault}")),
+                Some(number) => errors.write_line(format_args!(
+                    "share: refused with {number}: {fault}"
+                )),
                 None => errors.write_line(format_args!("share: {fault}")),
             };
             match said {
