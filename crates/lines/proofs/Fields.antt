@@ -1,5 +1,5 @@
 -- What is asked of a field, by what it holds.
-use Rattle.std.proofs.Common.{◌≡◌, ℕ, zero, suc, ◌-◌, ◌^◌, ◌<◌, ◌≤◌, Bool, true, false, cond, not, ◌&&◌, eqb, ltb, leb, ◌⊎◌, List, [], ◌∷◌, length, get_or, is_some, Some, None, Ok, Err, decimal, Option, Result, sym, refl, ap, ◌∙◌, subst, inr, ⊎_elim, arith}
+use Rattle.std.proofs.Common.{◌≡◌, ℕ, ◌^◌, ◌<◌, ◌≤◌, Bool, true, false, cond, not, ◌&&◌, eqb, ltb, leb, ◌⊎◌, List, [], ◌∷◌, length, get_or, is_some, Some, None, Ok, Err, decimal, Option, Result, sym, refl, ap, ◌∙◌, subst, ⊎_elim, arith}
 use lib.Utf8.{encode}
 use Rattle.std.specs.Str.Parse.{digits_value}
 use Rattle.std.specs.Char.{len_utf8}
@@ -9,25 +9,27 @@ use Rattle.std.proofs.lemmas.List.Recursion.{same_from_clauses}
 use Rattle.std.proofs.lemmas.Fmt.{decimal_is_IsNumeral, decimal_nonempty, decimal_digit, digits_decimal, first_decimal}
 use Rattle.std.proofs.lemmas.List.{append-nil, nil_from_length}
 use Rattle.std.proofs.lemmas.Str.Parse.{IsNumeralModel, numerals_by_value, tells_all_ascii_digits}
-use Rattle.std.proofs.lemmas.Bool.{cases_lt, cases_eq, cond_both, lt-ltb, ltb-true, ne_eqb, and_parts, and_left, leb-true, le-leb}
+use Rattle.std.proofs.lemmas.Bool.{cases_Bool, cases_lt, cases_eq, cond_both, lt-ltb, ltb-true, ne_eqb, and_parts, and_left, leb-true, le-leb}
 use Rattle.std.proofs.lemmas.Str.{encode_ascii, length-encode, len_utf8_bounds, char_from_byte}
 use Rattle.std.proofs.lemmas.Bool.Decides.{nat_tests}
-use Rattle.units.specs.Ranges.{form, kind, span, admits, is_figure, range, in_range}
+use Rattle.units.specs.Ranges.{form, span, admits, is_figure}
 use Rattle.units.specs.declared.ranges.Kind.{Kind}
 use Rattle.units.specs.declared.ranges.Kind.TheVariants.{Figure, Name, Pool, OtherPool}
 use Rattle.units.specs.declared.ranges.Letter.{Letter}
 use Rattle.units.specs.declared.ranges.Letter.TheVariants.{Header}
 use Rattle.figures.specs.Figure.{is_figure as a_figure, figure}
 use Rattle.figures.specs.declared.refusal.Refusal as figures
+use Rattle.figures.specs.declared.refusal.Refusal.TheVariants.{OutOfRange}
 use Rattle.records.specs.Pools.{pool_of}
 use Rattle.rows.specs.Rows.{spelled}
 use Rattle.rows.specs.declared.field.Field.{Field}
 use Rattle.rows.specs.declared.field.Field.TheVariants as held
 use Rattle.lines.specs.declared.fault.Fault.{Fault}
 use Rattle.lines.specs.declared.fault.Refusal.{Refusal}
-use Rattle.lines.specs.declared.fault.Refusal.TheVariants.{NotAFigure, OutOfRange, UnknownPool}
-use Rattle.lines.specs.Answers.{of_figure, told, at_field}
-use Rattle.lines.specs.Questions.{name_byte, name_bytes, a_name, a_pool, typed, passes, asks, holds, refused, Fits, Compared}
+use Rattle.lines.specs.declared.fault.Refusal.TheVariants as refusal
+use Rattle.lines.specs.declared.fault.Refusal.TheVariants.{UnknownPool}
+use Rattle.lines.specs.Answers.{told, at_field}
+use Rattle.lines.specs.Questions.{name_byte, name_bytes, a_name, a_pool, in_field, refused, asks, holds, Fits, Compared}
 
 own : IsNumeralModel (λ ds. all_ascii_digits ds ≡ true) (digits_value 10)
 own = numerals_by_value (λ ds. all_ascii_digits ds ≡ true) tells_all_ascii_digits
@@ -59,26 +61,14 @@ abbrev pub all_below : List Kind → Bool
 all_below [] = true
 all_below (κ ∷ κs) = below κ && all_below κs
 
-below_at : (κs : List Kind) (i : ℕ) → all_below κs ≡ true → (span (get_or κs i Name)).1 < 2 ^ 64
-below_at [] i e = omega arith
-below_at (κ ∷ κs) zero e = ltb-true (span κ).1 (2 ^ 64) (and_parts (below κ) (all_below κs) e).0
-below_at (κ ∷ κs) (suc i) e = below_at κs i (and_parts (below κ) (all_below κs) e).1
-
 pub form_below : (l : Letter) → all_below (form l) ≡ true
 form_below Header = refl
 form_below _ = refl
-
-range_below : (l : Letter) (k : ℕ) → (range l k).1 < 2 ^ 64
-range_below l k =
-    cond_both (ltb k 2) Name (get_or (form l) (k - 2) Name) (λ κ. (span κ).1 < 2 ^ 64) (λ e. omega arith) (λ e. below_at (form l) (k - 2) (form_below l))
 
 pub admits_below : (κ : Kind) (n : ℕ) → (span κ).1 < 2 ^ 64 → admits κ n ≡ true → n < 2 ^ 64
 admits_below κ n b e =
     let h = leb-true n (span κ).1 (and_parts (leb (span κ).0 n) (leb n (span κ).1) e).1 in
     omega arith
-
-pub in_range_below : (l : Letter) (k n : ℕ) → in_range l k n ≡ true → n < 2 ^ 64
-in_range_below l k n e = admits_below (kind l k) n (range_below l k) e
 
 -- a letter that names a pool is one byte
 pool_above : (c : ℕ) → 128 ≤ c → is_some (pool_of c) ≡ false
@@ -119,21 +109,69 @@ name_of_bytes bs b some few e =
     let u = le-leb (length bs) 24 few in
     e ∙ same_from_clauses (list_all name_byte) name_bytes (λ x r. name_byte x && r) refl (λ _ _. refl) (λ _ _. refl) bs ∙ (rw (l, u) refl)
 
--- what a field of a kind is asked
-pub figure_admits : (κ : Kind) (f before : List ℕ) → is_figure κ ≡ true → (typed κ f ≡ a_figure f) × (passes κ f before ≡ admits κ (digits_value 10 f)) × (refused κ ≡ OutOfRange)
-figure_admits (Figure m low high) f before e = (refl, refl, refl)
-figure_admits Name f before e = cc
-figure_admits Pool f before e = cc
-figure_admits OtherPool f before e = cc
+-- what a field of a figure's kind is asked
+pub figure_asks : (κ : Kind) (f before : List ℕ) → is_figure κ ≡ true → asks κ f before ≡ refused (in_field κ (figure f))
+figure_asks (Figure m low high) f before e = refl
+figure_asks Name f before e = cc
+figure_asks Pool f before e = cc
+figure_asks OtherPool f before e = cc
 
-module _ (κ : Kind) where
-  pub figure_passes : (n : ℕ) (before : List ℕ) → Fits κ (held.Figure n) → admits κ n ≡ passes κ (decimal n) before
-  figure_passes n before fit =
-      ap (admits κ) (sym (value_of n fit.1)) ∙ sym (figure_admits κ (decimal n) before fit.0).1
+-- what is read of a number that was written
+figure_written : (n : ℕ) → n < 2 ^ 64 → figure (decimal n) ≡ Ok n
+figure_written n h = let l = lt-ltb n (2 ^ 64) h in rw (written_figure n h, value_of n h, l) refl
 
-  pub pool_passes : (c : ℕ) (before : List ℕ) → (κ ≡ Pool) ⊎ (κ ≡ OtherPool) → (κ ≡ OtherPool → ⊥) → is_some (pool_of c) ≡ passes κ (encode c) before
-  pool_passes c before e first =
-      ⊎_elim (λ (p : κ ≡ Pool). sym (pool_encoded c) ∙ ap (λ κ. passes κ (encode c) before) (sym p)) (λ (p : κ ≡ OtherPool). absurd (first p)) e
+-- a figure that is read
+figure_read : (f : List ℕ) (n : ℕ) → figure f ≡ Ok n → (a_figure f ≡ true) × (digits_value 10 f ≡ n)
+figure_read f n e =
+    ⊎_elim
+    (λ (t : a_figure f ≡ true).
+    ⊎_elim
+    (λ (l : ltb (digits_value 10 f) (2 ^ 64) ≡ true).
+    let same = rw (t, l) at e in
+    (t, cc))
+    (λ (l : ltb (digits_value 10 f) (2 ^ 64) ≡ false).
+    let bad = rw (t, l) at e in
+    cc)
+    (cases_Bool (ltb (digits_value 10 f) (2 ^ 64))))
+    (λ (t : a_figure f ≡ false).
+    let bad = rw t at e in
+    cc)
+    (cases_Bool (a_figure f))
+
+-- and taken by its field
+field_takes : (κ : Kind) (r : Result ℕ figures.Refusal) (n : ℕ) → in_field κ r ≡ Ok n → (r ≡ Ok n) × (admits κ n ≡ true)
+field_takes κ (Ok m) n e =
+    ⊎_elim
+    (λ (a : admits κ m ≡ true).
+    let same = rw a at e in
+    (cc, cc))
+    (λ (a : admits κ m ≡ false).
+    let bad = rw a at e in
+    cc)
+    (cases_Bool (admits κ m))
+field_takes κ (Err d) n e = cc
+
+pub figure_taken : (κ : Kind) (f : List ℕ) (n : ℕ) → in_field κ (figure f) ≡ Ok n → (a_figure f ≡ true) × (admits κ (digits_value 10 f) ≡ true) × (n ≡ digits_value 10 f)
+figure_taken κ f n e =
+    let t = field_takes κ (figure f) n e in
+    let r = figure_read f n t.0 in
+    (r.0, ap (admits κ) r.1 ∙ t.1, sym r.1)
+
+-- no refusal
+not_refused : (r : Result ℕ figures.Refusal) → refused r ≡ None → (n : ℕ) × (r ≡ Ok n)
+not_refused (Ok n) e = (n, refl)
+not_refused (Err d) e = cc
+
+pub figure_passed : (κ : Kind) (f before : List ℕ) → is_figure κ ≡ true → asks κ f before ≡ None → (a_figure f ≡ true) × (admits κ (digits_value 10 f) ≡ true)
+figure_passed κ f before is e =
+    let p = not_refused (in_field κ (figure f)) (sym (figure_asks κ f before is) ∙ e) in
+    let t = figure_taken κ f p.0 p.1 in
+    (t.0, t.1)
+
+-- a question that is not answered no
+pub cond_passed : (b : Bool) (e : Refusal) → cond b None (Some e) ≡ None → b ≡ true
+cond_passed true e p = refl
+cond_passed false e p = cc
 
 other_letter : (c q : ℕ) → (is_some (pool_of c) && not (eqb c q)) ≡ (a_pool (encode c) && not (eqb (get_or (encode c) 0 0) (get_or (encode q) 0 0)))
 other_letter c q = grind (arith, nat_tests, pool_encoded, same_first, pool_ascii)
@@ -144,17 +182,6 @@ other_compared c (held.Letter q) fit = other_letter c q
 other_compared c (held.Figure n) fit = let e = fit.0 in cc
 other_compared c (held.Minus n) fit = absurd fit
 
-pub other_passes : (κ : Kind) (c : ℕ) (before : Field) → κ ≡ OtherPool → Compared κ before → (is_some (pool_of c) && not (holds c before)) ≡ passes κ (encode c) (spelled before)
-other_passes κ c before e compared =
-    other_compared c before (subst (λ κ. Compared κ before) e compared) ∙ ap (λ κ. passes κ (encode c) (spelled before)) (sym e)
-
-pub fits_typed : (κ : Kind) (f : Field) → Fits κ f → typed κ (spelled f) ≡ true
-fits_typed κ (held.Text t) fit = ap (λ κ. typed κ t.now) fit
-fits_typed κ (held.Letter c) fit =
-    ⊎_elim (λ (e : κ ≡ Pool). ap (λ κ. typed κ (encode c)) e) (λ (e : κ ≡ OtherPool). ap (λ κ. typed κ (encode c)) e) fit
-fits_typed κ (held.Figure n) fit = (figure_admits κ (decimal n) [] fit.0).0 ∙ written_figure n fit.1
-fits_typed κ (held.Minus n) fit = absurd fit
-
 -- what is told of a field
 abbrev pub telling : Bool → ℕ → Refusal → Result (Unit {0}) Fault
 telling b k e = cond b (Ok (tt {0})) (Err (record { field = k; refusal = e }))
@@ -163,37 +190,25 @@ told_by : (b : Bool) (k : ℕ) (e : Refusal) → telling b k e ≡ told (tt {0})
 told_by true k e = refl
 told_by false k e = refl
 
+refused_field : (κ : Kind) (n : ℕ) → refused (in_field κ (Ok n)) ≡ cond (admits κ n) None (Some (refusal.Figure OutOfRange))
+refused_field κ n = ⊎_elim (λ (a : admits κ n ≡ true). rw a refl) (λ (a : admits κ n ≡ false). rw a refl) (cases_Bool (admits κ n))
+
 module _ (κ : Kind) (k : ℕ) where
-  told_as : (f before : List ℕ) (b : Bool) → typed κ f ≡ true → b ≡ passes κ f before → telling b k (refused κ) ≡ told (tt {0}) (at_field k (asks κ f before))
-  told_as f before b t p = rw (t, ← p) (told_by b k (refused κ))
+  told_as : (f before : List ℕ) (b : Bool) (e : Refusal) → asks κ f before ≡ cond b None (Some e) → telling b k e ≡ told (tt {0}) (at_field k (asks κ f before))
+  told_as f before b e is = told_by b k e ∙ ap (λ o. told (tt {0}) (at_field k o)) (sym is)
 
-  pub told_figure : (n : ℕ) (before : List ℕ) → Fits κ (held.Figure n) → telling (admits κ n) k OutOfRange ≡ told (tt {0}) (at_field k (asks κ (decimal n) before))
+  pub told_figure : (n : ℕ) (before : List ℕ) → Fits κ (held.Figure n) → telling (admits κ n) k (refusal.Figure OutOfRange) ≡ told (tt {0}) (at_field k (asks κ (decimal n) before))
   told_figure n before fit =
-      ap (telling (admits κ n) k) (sym (figure_admits κ [] [] fit.0).2)
-      ∙ told_as (decimal n) before (admits κ n) (fits_typed κ (held.Figure n) fit) (figure_passes κ n before fit)
-
-  told_letter : (c : ℕ) (before : List ℕ) (b : Bool) → (κ ≡ Pool) ⊎ (κ ≡ OtherPool) → b ≡ passes κ (encode c) before → telling b k UnknownPool ≡ told (tt {0}) (at_field k (asks κ (encode c) before))
-  told_letter c before b e p =
-      ap (telling b k) (⊎_elim (λ (s : κ ≡ Pool). ap refused (sym s)) (λ (s : κ ≡ OtherPool). ap refused (sym s)) e)
-      ∙ told_as (encode c) before b (fits_typed κ (held.Letter c) e) p
+      told_as (decimal n) before (admits κ n) (refusal.Figure OutOfRange) (figure_asks κ (decimal n) before fit.0 ∙ ap (λ r. refused (in_field κ r)) (figure_written n fit.1) ∙ refused_field κ n)
 
   pub told_pool : (c : ℕ) (before : List ℕ) → (κ ≡ Pool) ⊎ (κ ≡ OtherPool) → (κ ≡ OtherPool → ⊥) → telling (is_some (pool_of c)) k UnknownPool ≡ told (tt {0}) (at_field k (asks κ (encode c) before))
-  told_pool c before e first = told_letter c before (is_some (pool_of c)) e (pool_passes κ c before e first)
+  told_pool c before e first =
+      let pool = ⊎_elim (λ (p : κ ≡ Pool). p) (λ (p : κ ≡ OtherPool). absurd (first p)) e in
+      told_as (encode c) before (is_some (pool_of c)) UnknownPool (ap (λ κ. asks κ (encode c) before) pool ∙ ap (λ b. cond b None (Some UnknownPool)) (pool_encoded c))
 
   pub told_other : (c : ℕ) (before : Field) → κ ≡ OtherPool → Compared κ before → telling (is_some (pool_of c) && not (holds c before)) k UnknownPool ≡ told (tt {0}) (at_field k (asks κ (encode c) (spelled before)))
   told_other c before e compared =
-      told_letter c (spelled before) (is_some (pool_of c) && not (holds c before)) (inr e) (other_passes κ c before e compared)
-
--- bytes that are no figure, or too large a one
-module _ (bytes : List ℕ) (l : Letter) (k : ℕ) (is : is_figure (kind l k) ≡ true) where
-  too_large : 2 ^ 64 ≤ digits_value 10 bytes → in_range l k (digits_value 10 bytes) ≡ false
-  too_large h = grind (arith, nat_tests, in_range_below)
-
-  figure_asks : (before : List ℕ) → asks (kind l k) bytes before ≡ cond (a_figure bytes) (cond (in_range l k (digits_value 10 bytes)) None (Some OutOfRange)) (Some NotAFigure)
-  figure_asks before = let p = figure_admits (kind l k) bytes before is in rw (p.0, p.1, p.2) refl
-
-  pub figure_fault : (e : figures.Refusal) → Err e ≡ figure bytes → (before : List ℕ) → asks (kind l k) bytes before ≡ Some (of_figure e)
-  figure_fault e given before = rw (figure_asks before) (grind (arith, nat_tests, too_large))
+      told_as (encode c) (spelled before) (is_some (pool_of c) && not (holds c before)) UnknownPool (ap (λ κ. asks κ (encode c) (spelled before)) e ∙ ap (λ b. cond b None (Some UnknownPool)) (sym (other_compared c before (subst (λ κ. Compared κ before) e compared))))
 
 -- one byte below 128 is a letter
 pub one_byte : (bytes : List ℕ) → length bytes ≡ 1 → bytes ≡ get_or bytes 0 0 ∷ []
@@ -212,7 +227,3 @@ module _ {E : Type 0} where
   pub told_nothing : (o : Option E) (x : Unit {0}) → Ok x ≡ told (tt {0}) o → o ≡ None
   told_nothing None x is = refl
   told_nothing (Some d) x is = cc
-
-pub told_value : {X E : Type 0} (n x : X) (o : Option E) → Ok n ≡ told x o → n ≡ x
-told_value n x None is = cc
-told_value n x (Some e) is = cc

@@ -115,8 +115,8 @@ again_is (Figure m low high) f before b e =
     let p = asks_passes (Figure m low high) f before e in
     figure_back f p.0 (admits_below (Figure m low high) (digits_value 10 f) b p.1)
 again_is Name f before b e = refl
-again_is Pool f before b e = pool_back f (asks_passes Pool f before e).1
-again_is OtherPool f before b e = pool_back f (and_parts (a_pool f) _ (asks_passes OtherPool f before e).1).0
+again_is Pool f before b e = pool_back f (asks_passes Pool f before e)
+again_is OtherPool f before b e = pool_back f (asks_passes OtherPool f before e)
 
 abbrev all_again : List Kind → List (List ℕ) → List (List ℕ)
 all_again [] fs = fs
@@ -215,9 +215,9 @@ figure_plain f t =
 passed_plain : (κ : Kind) (f before : List ℕ) → asks κ f before ≡ None → Plain f
 passed_plain (Figure m low high) f before e = figure_plain f (asks_passes (Figure m low high) f before e).0
 passed_plain Name f before e =
-    name_plain f (and_parts (ltb 0 (length f) && leb (length f) 24) (name_bytes f) (asks_passes Name f before e).1).1
-passed_plain Pool f before e = pool_plain f (asks_passes Pool f before e).1
-passed_plain OtherPool f before e = pool_plain f (and_parts (a_pool f) _ (asks_passes OtherPool f before e).1).0
+    name_plain f (and_parts (ltb 0 (length f) && leb (length f) 24) (name_bytes f) (asks_passes Name f before e)).1
+passed_plain Pool f before e = pool_plain f (asks_passes Pool f before e)
+passed_plain OtherPool f before e = pool_plain f (asks_passes OtherPool f before e)
 
 all_plain : (l : Letter) (fs : List (List ℕ)) → letter_of (field fs 1) ≡ Some l → length fs ≡ count l → ((k : ℕ) → 2 ≤ k → k ≤ count l → asked l fs k ≡ None) → AllByRecursion Plain fs
 all_plain l fs known n clean =
@@ -240,8 +240,8 @@ Fitting (transfer n m o) = (n < 2 ^ 64) × (m < 2 ^ 64) × (o < 2 ^ 64)
 
 -- the letter of a pool that passes
 pool_first : (κ : Kind) (c : ℕ) (before : List ℕ) → (κ ≡ Pool) ⊎ (κ ≡ OtherPool) → asks κ (encode c) before ≡ None → get_or (encode c) 0 0 ≡ c
-pool_first Pool c before o e = letter_first c (asks_passes Pool (encode c) before e).1
-pool_first OtherPool c before o e = letter_first c (and_parts (a_pool (encode c)) _ (asks_passes OtherPool (encode c) before e).1).0
+pool_first Pool c before o e = letter_first c (asks_passes Pool (encode c) before e)
+pool_first OtherPool c before o e = letter_first c (asks_passes OtherPool (encode c) before e)
 pool_first _ c before o e = absurd (⊎_elim (λ p. cc) (λ p. cc) o)
 
 cost_made : (n c : ℕ) (p : Posting) → n < 2 ^ 64 → c < 2 ^ 64 → Passing (form (cost_letter p)) (byte_of (cost_letter p) ∷ []) (held (cost n p c)) → made (cost_letter p) (held (cost n p c)) ≡ cost n p c
@@ -289,7 +289,7 @@ held_passing c none =
     subst (Passing (form l) (byte_of l ∷ [])) (after_is l fs (fields_counted c)) (passing l fs (clean_from l fs none))
 
 pub customer_named : (name : List ℕ) (f : Figures) → fault_in (customer name f) ≡ None → a_name name ≡ true
-customer_named name f none = (asks_passes Name name (decimal f.number) (held_passing (customer name f) none).1.0).1
+customer_named name f none = asks_passes Name name (decimal f.number) (held_passing (customer name f) none).1.0
 
 -- a line that is written is read again
 reads_back : (c : Contents) → Fitting c → fault_in c ≡ None → line_of (written c) ≡ Ok c

@@ -1,25 +1,18 @@
 -- Refusals by their numbers, and faults by their fields.
 use Rattle.std.specs.Prelude.{ℕ, Some, None, Ok, Err, Option, Result}
-use Rattle.figures.specs.declared.refusal.Refusal as figures
-use Rattle.figures.specs.declared.refusal.Refusal.TheVariants as figure
+use Rattle.figures.specs.Figure as figures
 use Rattle.lines.specs.declared.fault.Fault.{Fault}
 use Rattle.lines.specs.declared.fault.Refusal.{Refusal}
-use Rattle.lines.specs.declared.fault.Refusal.TheVariants.{UnknownLetter, FieldCount, NotAFigure, OutOfRange, NotAName, UnknownPool, NoRoom}
+use Rattle.lines.specs.declared.fault.Refusal.TheVariants.{UnknownLetter, FieldCount, Figure, NotAName, UnknownPool, NoRoom}
 
--- The number of each refusal.
+-- The number of each refusal; a figure's is that of figures.
 abbrev pub number : Refusal → ℕ
 number UnknownLetter = 3
 number FieldCount = 4
-number NotAFigure = 5
-number OutOfRange = 6
+number (Figure e) = figures.number e
 number NotAName = 7
 number UnknownPool = 8
 number NoRoom = 9
-
--- A figure's refusal, as a line gives it.
-abbrev pub of_figure : figures.Refusal → Refusal
-of_figure figure.NotAFigure = NotAFigure
-of_figure figure.OutOfRange = OutOfRange
 
 -- The answer of a call: its value, or what the first "no" gave.
 abbrev pub told : {X E : Type 0} → X → Option E → Result X E

@@ -1,17 +1,19 @@
 -- The questions that are put to the fields of a line.
-use Rattle.std.specs.Prelude.{◌≡◌, ℕ, zero, suc, ◌+◌, ◌-◌, ◌^◌, ◌<◌, Bool, true, false, cond, not, ◌&&◌, ◌⊎◌, List, [], ◌∷◌, length, is_some, Some, None, Option, ◌==◌, nat_le, nat_lt, slice_index}
-use Rattle.std.specs.Str.Parse.{digits_value}
+use Rattle.std.specs.Prelude.{◌≡◌, ℕ, zero, suc, ◌+◌, ◌-◌, ◌^◌, ◌<◌, Bool, true, false, cond, not, ◌&&◌, ◌⊎◌, List, [], ◌∷◌, length, is_some, Some, None, Ok, Err, Option, Result, ◌==◌, nat_le, nat_lt, slice_index}
 use Rattle.units.specs.Ranges.{kind, admits, is_figure}
 use Rattle.units.specs.declared.ranges.Letter.{Letter}
 use Rattle.units.specs.declared.ranges.Kind.{Kind}
 use Rattle.units.specs.declared.ranges.Kind.TheVariants.{Figure, Name, Pool, OtherPool}
-use Rattle.figures.specs.Figure.{is_figure as a_figure}
+use Rattle.figures.specs.Figure.{figure}
+use Rattle.figures.specs.declared.refusal.Refusal as figures
+use Rattle.figures.specs.declared.refusal.Refusal.TheVariants.{OutOfRange}
 use Rattle.records.specs.Pools.{pool_of}
 use Rattle.rows.specs.declared.field.Field.{Field}
 use Rattle.rows.specs.declared.field.Field.TheVariants as held
 use Rattle.lines.specs.declared.fault.Fault.{Fault}
 use Rattle.lines.specs.declared.fault.Refusal.{Refusal}
-use Rattle.lines.specs.declared.fault.Refusal.TheVariants.{NotAFigure, OutOfRange, NotAName, UnknownPool}
+use Rattle.lines.specs.declared.fault.Refusal.TheVariants as refusal
+use Rattle.lines.specs.declared.fault.Refusal.TheVariants.{NotAName, UnknownPool}
 use Rattle.lines.specs.Letters.{field}
 use Rattle.lines.specs.Answers.{at_field, or_else}
 
@@ -31,29 +33,22 @@ a_name f = nat_lt 0 (length f) && nat_le (length f) 24 && name_bytes f
 abbrev pub a_pool : List ℕ → Bool
 a_pool f = length f == 1 && is_some (pool_of (slice_index f 0))
 
--- Question 5, which is put to figures.
-abbrev pub typed : Kind → List ℕ → Bool
-typed (Figure m low high) f = a_figure f
-typed Name f = true
-typed Pool f = true
-typed OtherPool f = true
+-- A figure as its field takes it: refused with 6 too where it is outside the field's range.
+abbrev pub in_field : Kind → Result ℕ figures.Refusal → Result ℕ figures.Refusal
+in_field kind (Ok n) = cond (admits kind n) (Ok n) (Err OutOfRange)
+in_field kind (Err e) = Err e
 
--- Questions 6, 7 and 8; the second pool of a shift is unlike the field before it.
-abbrev pub passes : Kind → List ℕ → List ℕ → Bool
-passes (Figure m low high) f before = admits (Figure m low high) (digits_value 10 f)
-passes Name f before = a_name f
-passes Pool f before = a_pool f
-passes OtherPool f before = a_pool f && not (slice_index f 0 == slice_index before 0)
+-- What it is refused for, as a line's refusal.
+abbrev pub refused : Result ℕ figures.Refusal → Option Refusal
+refused (Ok n) = None
+refused (Err e) = Some (refusal.Figure e)
 
-abbrev pub refused : Kind → Refusal
-refused (Figure m low high) = OutOfRange
-refused Name = NotAName
-refused Pool = UnknownPool
-refused OtherPool = UnknownPool
-
--- What a field is refused for, if anything.
+-- What a field is refused for, if anything; the second pool of a shift is unlike the field before it.
 abbrev pub asks : Kind → List ℕ → List ℕ → Option Refusal
-asks kind f before = cond (typed kind f) (cond (passes kind f before) None (Some (refused kind))) (Some NotAFigure)
+asks (Figure m low high) f before = refused (in_field (Figure m low high) (figure f))
+asks Name f before = cond (a_name f) None (Some NotAName)
+asks Pool f before = cond (a_pool f) None (Some UnknownPool)
+asks OtherPool f before = cond (a_pool f && not (slice_index f 0 == slice_index before 0)) None (Some UnknownPool)
 
 abbrev pub asked : Letter → List (List ℕ) → ℕ → Option Refusal
 asked l fs k = asks (kind l k) (field fs k) (field fs (k - 1))

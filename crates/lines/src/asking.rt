@@ -1,11 +1,11 @@
 //! The questions that are put to a field.
-ghost use Rattle.std.specs.Prelude.{◌≡◌, ℕ, List, true, not, ◌&&◌, ◌==◌, is_some, if◌then◌else◌, Ok, Err, slice_index};
-ghost use Rattle.std.specs.Str.Parse.{digits_value};
+ghost use Rattle.std.specs.Prelude.{◌≡◌, not, ◌&&◌, ◌==◌, is_some, if◌then◌else◌, Ok, Err, slice_index};
 ghost use Rattle.records.specs.Pools.{pool_of};
 ghost use Rattle.rows.specs.Rows.{spelled};
+ghost use Rattle.figures.specs.Figure.{figure};
 ghost use Rattle.lines.specs.Answers.{told, at_field};
-ghost use Rattle.units.specs.Ranges.{kind, is_figure};
-ghost use Rattle.lines.specs.Questions.{a_name, a_pool, holds, asks, Fits, Compared};
+ghost use Rattle.units.specs.Ranges.{kind};
+ghost use Rattle.lines.specs.Questions.{a_name, a_pool, holds, in_field, asks, Fits, Compared};
 ghost use Rattle.lines.specs.declared.fault.Refusal.TheVariants.{NotAName, UnknownPool};
 
 use crate::fault::{Fault, Refusal};
@@ -50,6 +50,9 @@ fn answer(lawful: bool, place: usize, refusal: Refusal) -> Result<(), Fault>
     Ok(())
 }
 
+// A figure outside the range of its field.
+const OUT_OF_RANGE: Refusal = Refusal::Figure(figures::Refusal::OutOfRange);
+
 /// Asks whether a field's figure is in its range (6), its name lawful (7), or
 /// its pool known and, in the second pool of a shift, unlike the field before
 /// it (8).
@@ -63,7 +66,7 @@ pub(crate) fn ask(
     ensures { result ≡ told tt (at_field place (asks (kind letter place) (spelled field.entry) (spelled before.entry))) }
 {
     match field {
-        Field::Figure(n) => answer(in_range(letter, place, n), place, Refusal::OutOfRange),
+        Field::Figure(n) => answer(in_range(letter, place, n), place, OUT_OF_RANGE),
         Field::Text(name) => answer(is_name(name), place, Refusal::NotAName),
         // By kind: a field doesn't say which of a shift's pools it holds.
         Field::Letter(pool) if matches!(kind_at(letter, place), Kind::OtherPool) => answer(
@@ -72,19 +75,17 @@ pub(crate) fn ask(
             Refusal::UnknownPool,
         ),
         Field::Letter(pool) => answer(is_pool(pool), place, Refusal::UnknownPool),
-        Field::Minus(_) => answer(false, place, Refusal::OutOfRange),
+        Field::Minus(_) => answer(false, place, OUT_OF_RANGE),
     }
 }
 
-/// The figure that some bytes are: digits only (5), and in the range of its
-/// field (6).
-pub(crate) fn figure_in(letter: Letter, place: usize, bytes: &[u8]) -> Result<u64, Refusal>
-    requires { is_figure (kind letter place) ≡ true }
-    ensures { (before : List ℕ) → result ≡ told (digits_value 10 bytes.now) (asks (kind letter place) bytes.now before) }
+/// The figure that some bytes are, if it is in the range of its field (6).
+pub(crate) fn figure_in(letter: Letter, place: usize, bytes: &[u8]) -> Result<u64, figures::Refusal>
+    ensures { result ≡ in_field (kind letter place) (figure bytes.now) }
 {
     let n = figures::read(bytes)?;
     if !in_range(letter, place, n) {
-        return Err(Refusal::OutOfRange);
+        return Err(figures::Refusal::OutOfRange);
     }
     Ok(n)
 }

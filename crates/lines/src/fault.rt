@@ -1,24 +1,23 @@
 //! Why a line is refused, and at which field.
 ghost use Rattle.std.specs.Prelude.{◌≡◌};
-ghost use Rattle.lines.specs.Answers.{number, of_figure};
+ghost use Rattle.lines.specs.Answers.{number};
+ghost use Rattle.lines.specs.declared.fault.Refusal.TheVariants.{Figure};
 
 /// The question that a line fails.
 #[derive(Clone, Copy, PartialEq, Eq, Debug)]
 pub enum Refusal {
     /// 3: the letter is not known.
-    UnknownLetter = 3,
+    UnknownLetter,
     /// 4: the line has not as many fields as its letter asks for.
-    FieldCount = 4,
-    /// 5: a figure is not digits only, has none, or has a leading 0.
-    NotAFigure = 5,
-    /// 6: a figure is outside its range.
-    OutOfRange = 6,
+    FieldCount,
+    /// A figure's own refusal; 6 too where it is outside the range of its field.
+    Figure(figures::Refusal),
     /// 7: a name has not 1 to 24 bytes from 32 to 126 without the comma.
-    NotAName = 7,
+    NotAName,
     /// 8: a pool's letter is not known, or a shift names a pool twice.
-    UnknownPool = 8,
+    UnknownPool,
     /// 9: the buffer is too short for the line.
-    NoRoom = 9,
+    NoRoom,
 }
 
 impl Refusal {
@@ -26,18 +25,23 @@ impl Refusal {
     pub fn number(self) -> u8
         ensures { result ≡ number self }
     {
-        self as u8
+        // Case by case, since a case that holds a value is no number.
+        match self {
+            Refusal::UnknownLetter => 3,
+            Refusal::FieldCount => 4,
+            Refusal::Figure(refusal) => refusal.number(),
+            Refusal::NotAName => 7,
+            Refusal::UnknownPool => 8,
+            Refusal::NoRoom => 9,
+        }
     }
 }
 
 impl From<figures::Refusal> for Refusal {
-    ghost from_gives = { λ e f. f ≡ of_figure e };
+    ghost from_gives = { λ e f. f ≡ Figure e };
 
     fn from(e: figures::Refusal) -> Refusal {
-        match e {
-            figures::Refusal::NotAFigure => Refusal::NotAFigure,
-            figures::Refusal::OutOfRange => Refusal::OutOfRange,
-        }
+        Refusal::Figure(e)
     }
 }
 

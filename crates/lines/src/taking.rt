@@ -98,7 +98,7 @@ impl<'a> Fields<'a> {
                 self.pass(rest);
                 Ok(figure)
             }
-            Err(refusal) => Err(self.fault(refusal)),
+            Err(refusal) => Err(self.fault(refusal.into())),
         }
     }
 

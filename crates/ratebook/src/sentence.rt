@@ -13,7 +13,7 @@ fn part(bytes: &[u8], separator: u8, place: usize) -> &[u8] {
 }
 
 // Why bytes are no figure.
-fn figure_words(bytes: &[u8]) -> &'static str {
+fn no_figure_words(bytes: &[u8]) -> &'static str {
     if bytes.is_empty() {
         "nothing stands where a figure is wanted"
     } else if bytes.iter().all(u8::is_ascii_digit) {
@@ -23,13 +23,20 @@ fn figure_words(bytes: &[u8]) -> &'static str {
     }
 }
 
+// What is wrong with a figure.
+fn figure_words(refusal: figures::Refusal, bytes: &[u8]) -> &'static str {
+    match refusal {
+        figures::Refusal::NotAFigure => no_figure_words(bytes),
+        figures::Refusal::OutOfRange => "the figure is outside its range",
+    }
+}
+
 // What is wrong with a line.
 fn line_words(refusal: lines::Refusal, bytes: &[u8]) -> &'static str {
     match refusal {
         lines::Refusal::UnknownLetter => "a line begins with H, C, E, R, A, G or T and a comma",
         lines::Refusal::FieldCount => "the line has too few or too many fields for its letter",
-        lines::Refusal::NotAFigure => figure_words(bytes),
-        lines::Refusal::OutOfRange => "the figure is outside its range",
+        lines::Refusal::Figure(refusal) => figure_words(refusal, bytes),
         lines::Refusal::NotAName => "a name has 1 to 24 printable ASCII characters",
         lines::Refusal::UnknownPool =>
             "a pool is C, N, S or T, and a shift names two different ones",
