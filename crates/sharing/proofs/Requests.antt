@@ -7,7 +7,7 @@ use Rattle.std.proofs.lemmas.Str.Parse.{numerals_by_value, tells_all_ascii_digit
 use Rattle.divider.proofs.Asking.{passed}
 use Rattle.divider.proofs.Parts.{total_le}
 use Rattle.figures.specs.Figure.{figure}
-use Rattle.sharing.specs.declared.fault.Fault.TheVariants.{UnknownRule, NoTotal, NotAFigure, OutOfRange, Division, NoMemory}
+use Rattle.sharing.specs.declared.fault.Fault.TheVariants.{UnknownRule, NoTotal, Word, Division, NoMemory}
 use Rattle.sharing.specs.declared.fault.Fault.{Fault}
 use Rattle.sharing.specs.declared.rule.Rule.{Rule}
 use Rattle.sharing.specs.Request.{Asks, Answered}
@@ -29,8 +29,7 @@ pub answered : (words : List (List ℕ)) (rule : Rule) (t : ℕ) (ws : List ℕ)
 answered words rule t ws (Ok text) a e = (rule, t, ws, (e, a.0, a.1))
 answered words rule t ws (Err UnknownRule) a e = absurd a
 answered words rule t ws (Err NoTotal) a e = absurd a
-answered words rule t ws (Err (NotAFigure word)) a e = absurd a
-answered words rule t ws (Err (OutOfRange word)) a e = absurd a
+answered words rule t ws (Err (Word word x)) a e = absurd a
 answered words rule t ws (Err (Division x)) a e = (rule, t, ws, (e, a))
 answered words rule t ws (Err NoMemory) a e =
     let f = total_le t ws (passed t ws (length ws) a) in

@@ -3,20 +3,16 @@ use Rattle.std.proofs.Common.{◌≡◌, ℕ, ◌+◌, ◌<◌, true, List, [], 
 use Rattle.std.proofs.lemmas.List.{get_or-map, length-map, map_more, map_push}
 use Rattle.figures.specs.Figure.{figure}
 use Rattle.figures.specs.declared.refusal.Refusal.{Refusal}
-use Rattle.figures.specs.declared.refusal.Refusal.TheVariants as unread
-use Rattle.sharing.specs.Request.{FirstBad, FigureFirst, Figures, at_word}
-
-refused : (words : List (List ℕ)) (word : ℕ) (why : Refusal) → FirstBad words word why → Figures words (Err (at_word why word))
-refused words word unread.NotAFigure f = f
-refused words word unread.OutOfRange f = f
+use Rattle.sharing.specs.declared.fault.Fault.TheVariants.{Word}
+use Rattle.sharing.specs.Request.{FigureFirst, Figures}
 
 module _ {X : Type 0} (bytes : X → List ℕ) (words : List X) (i : ℕ) (h : i < length words) (word : X) (at : word ≡ get_or words i word) where
   word_at : get_or (map bytes words) i [] ≡ bytes word
   word_at = get_or-map bytes words i word [] h ∙ ap bytes (sym at)
 
-  pub first_bad : (bs : List ℕ) (why : Refusal) → bs ≡ bytes word → Err why ≡ figure bs → ((k : ℕ) → k < i → is_ok (figure (get_or (map bytes words) k [])) ≡ true) → Figures (map bytes words) (Err (at_word why (i + 2)))
+  pub first_bad : (bs : List ℕ) (why : Refusal) → bs ≡ bytes word → Err why ≡ figure bs → ((k : ℕ) → k < i → is_ok (figure (get_or (map bytes words) k [])) ≡ true) → Figures (map bytes words) (Err (Word (i + 2) why))
   first_bad bs why e bad good =
-      refused (map bytes words) (i + 2) why (record { place = i; counted = refl; stands = rw (length-map words bytes) h; bad = ap figure (word_at ∙ sym e) ∙ sym bad; good = good })
+      record { place = i; counted = refl; stands = rw (length-map words bytes) h; bad = ap figure (word_at ∙ sym e) ∙ sym bad; good = good }
 
   good_more : (bs : List ℕ) (n : ℕ) → bs ≡ bytes word → Ok n ≡ figure bs → ((k : ℕ) → k < i → is_ok (figure (get_or (map bytes words) k [])) ≡ true) → (k : ℕ) → k < i + 1 → is_ok (figure (get_or (map bytes words) k [])) ≡ true
   good_more bs n e read good =

@@ -3,11 +3,11 @@ use Rattle.std.specs.Prelude.{◌≡◌, ℕ, ◌+◌, ◌<◌, true, List, [], 
 use Rattle.std.specs.declared.alloc.Global.{Global}
 use Rattle.divider.specs.Questions as division
 use Rattle.divider.specs.Questions.{asked}
+use Rattle.figures.specs.Figure as figures
 use Rattle.figures.specs.Figure.{figure}
 use Rattle.figures.specs.declared.refusal.Refusal.{Refusal}
-use Rattle.figures.specs.declared.refusal.Refusal.TheVariants as unread
 use Rattle.sharing.specs.declared.fault.Fault.{Fault}
-use Rattle.sharing.specs.declared.fault.Fault.TheVariants.{UnknownRule, NoTotal, NotAFigure, OutOfRange, Division, NoMemory}
+use Rattle.sharing.specs.declared.fault.Fault.TheVariants.{UnknownRule, NoTotal, Word, Division, NoMemory}
 use Rattle.sharing.specs.declared.rule.Rule.{Rule}
 use Rattle.sharing.specs.declared.rule.Rule.TheVariants.{Largest, Running}
 use Rattle.sharing.specs.Table.{by_rule, table}
@@ -16,8 +16,7 @@ use Rattle.sharing.specs.Table.{by_rule, table}
 abbrev pub number : Fault → Option ℕ
 number UnknownRule = Some 3
 number NoTotal = Some 4
-number (NotAFigure word) = Some 5
-number (OutOfRange word) = Some 6
+number (Word word e) = Some (figures.number e)
 number (Division e) = Some (division.number e)
 number NoMemory = None
 
@@ -38,11 +37,6 @@ pub record FirstBad (words : List (List ℕ)) (word : ℕ) (why : Refusal) : Typ
   pub bad : figure (slice_index_or words place []) ≡ Err why
   pub good : (k : ℕ) → k < place → is_ok (figure (slice_index_or words k [])) ≡ true
 
--- The fault of such a word.
-abbrev pub at_word : Refusal → ℕ → Fault
-at_word unread.NotAFigure word = NotAFigure word
-at_word unread.OutOfRange word = OutOfRange word
-
 -- The first of the words, the total, is a figure: memory is asked for only once it was read.
 abbrev pub FigureFirst : List (List ℕ) → Type 0
 FigureFirst words = (0 < length words) × (is_ok (figure (slice_index_or words 0 [])) ≡ true)
@@ -52,8 +46,7 @@ abbrev pub Figures : List (List ℕ) → Result (Vec ℕ Global) Fault → Type 
 Figures words (Ok found) = words ≡ map decimal (vec_items found)
 Figures words (Err UnknownRule) = ⊥
 Figures words (Err NoTotal) = ⊥
-Figures words (Err (NotAFigure word)) = FirstBad words word unread.NotAFigure
-Figures words (Err (OutOfRange word)) = FirstBad words word unread.OutOfRange
+Figures words (Err (Word word why)) = FirstBad words word why
 Figures words (Err (Division e)) = ⊥
 Figures words (Err NoMemory) = FigureFirst words
 
@@ -67,10 +60,8 @@ Answered words (Ok text) =
     (rule : Rule) × (total : ℕ) × (weights : List ℕ) × (Asks words rule total weights × (asked total weights (length weights) ≡ None) × (string_bytes text ≡ table total weights (by_rule rule total weights)))
 Answered words (Err UnknownRule) = (rule : Rule) → slice_index_or words 0 [] ≢ name rule
 Answered words (Err NoTotal) = (rule : Rule) × (words ≡ name rule ∷ [])
-Answered words (Err (NotAFigure word)) =
-    (rule : Rule) × ((slice_index_or words 0 [] ≡ name rule) × FirstBad (drop 1 words) word unread.NotAFigure)
-Answered words (Err (OutOfRange word)) =
-    (rule : Rule) × ((slice_index_or words 0 [] ≡ name rule) × FirstBad (drop 1 words) word unread.OutOfRange)
+Answered words (Err (Word word why)) =
+    (rule : Rule) × ((slice_index_or words 0 [] ≡ name rule) × FirstBad (drop 1 words) word why)
 Answered words (Err (Division e)) =
     (rule : Rule) × (total : ℕ) × (weights : List ℕ) × (Asks words rule total weights × (asked total weights (length weights) ≡ Some e))
 Answered words (Err NoMemory) =

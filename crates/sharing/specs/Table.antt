@@ -6,7 +6,7 @@ use Rattle.divider.specs.Shares.{whole, rest}
 use Rattle.largest.specs.Largest.{by_remainders}
 use Rattle.running.specs.Running.{by_running}
 use Rattle.sharing.specs.declared.fault.Fault.{Fault}
-use Rattle.sharing.specs.declared.fault.Fault.TheVariants.{UnknownRule, NoTotal, NotAFigure, OutOfRange, Division, NoMemory}
+use Rattle.sharing.specs.declared.fault.Fault.TheVariants.{UnknownRule, NoTotal, Word, Division, NoMemory}
 use Rattle.sharing.specs.declared.rule.Rule.{Rule}
 use Rattle.sharing.specs.declared.rule.Rule.TheVariants.{Largest, Running}
 
@@ -51,7 +51,6 @@ abbrev pub Answers : {X : Type 0} → ℕ → List ℕ → (X → Type 0) → Re
 Answers total weights P (Ok x) = (asked total weights (length weights) ≡ None) × P x
 Answers total weights P (Err UnknownRule) = ⊥
 Answers total weights P (Err NoTotal) = ⊥
-Answers total weights P (Err (NotAFigure word)) = ⊥
-Answers total weights P (Err (OutOfRange word)) = ⊥
+Answers total weights P (Err (Word word e)) = ⊥
 Answers total weights P (Err (Division e)) = asked total weights (length weights) ≡ Some e
 Answers total weights P (Err NoMemory) = asked total weights (length weights) ≡ None

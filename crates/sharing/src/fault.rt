@@ -13,10 +13,11 @@ pub enum Fault {
     UnknownRule,
     /// 4: there is no total.
     NoTotal,
-    /// 5: this word is no figure.
-    NotAFigure(usize),
-    /// 6: this word is a figure above 2^64 - 1.
-    OutOfRange(usize),
+    /// This word's refusal as a figure.
+    Word {
+        word: usize,
+        refusal: figures::Refusal,
+    },
     /// 41 or 42: the divider's refusal.
     Division(Refusal),
     /// There is not enough memory for the answer.
@@ -32,8 +33,7 @@ impl Fault {
         match self {
             Fault::UnknownRule => Some(3),
             Fault::NoTotal => Some(4),
-            Fault::NotAFigure(_) => Some(5),
-            Fault::OutOfRange(_) => Some(6),
+            Fault::Word { refusal, .. } => Some(refusal.number()),
             Fault::Division(e) => Some(e.number()),
             Fault::NoMemory => None,
         }
@@ -45,11 +45,17 @@ impl fmt::Display for Fault {
         match self {
             Fault::UnknownRule => write!(f, "the first word must name a rule: largest or running"),
             Fault::NoTotal => write!(f, "the total is missing: write it after the rule"),
-            Fault::NotAFigure(word) => write!(
+            Fault::Word {
+                word,
+                refusal: figures::Refusal::NotAFigure,
+            } => write!(
                 f,
                 "word {word} is no whole number: write digits only, with no leading zero"
             ),
-            Fault::OutOfRange(word) => write!(f, "word {word} is above 18446744073709551615"),
+            Fault::Word {
+                word,
+                refusal: figures::Refusal::OutOfRange,
+            } => write!(f, "word {word} is above 18446744073709551615"),
             Fault::Division(Refusal::SheetLength) => {
                 write!(f, "the sheet is not as long as the weights")
             }

@@ -1,19 +1,9 @@
 //! Requests as words: the rule, the total, the weights.
 ghost use Rattle.std.specs.Prelude.{◌≡◌, map, length, string_bytes};
-ghost use Rattle.sharing.specs.Request.{Figures, at_word, Answered};
+ghost use Rattle.sharing.specs.Request.{Figures, Answered};
 
 use crate::{Fault, Rule, table};
 use std::alloc::Global;
-
-// The fault of a word that is read as no figure.
-fn at_word(e: figures::Refusal, word: usize) -> Fault
-    ensures { result ≡ at_word e word }
-{
-    match e {
-        figures::Refusal::NotAFigure => Fault::NotAFigure(word),
-        figures::Refusal::OutOfRange => Fault::OutOfRange(word),
-    }
-}
 
 // The figures that these words spell; the first of them is word 2 of the request.
 fn figures_of(heap: Global, words: &[String]) -> Result<Vec<u64>, Fault>
@@ -24,7 +14,12 @@ fn figures_of(heap: Global, words: &[String]) -> Result<Vec<u64>, Fault>
     for (i, word) in words.iter().enumerate() {
         match figures::read(word.as_bytes()) {
             Ok(figure) => found.push(figure)?,
-            Err(e) => return Err(at_word(e, i + 2)),
+            Err(refusal) => {
+                return Err(Fault::Word {
+                    word: i + 2,
+                    refusal,
+                });
+            }
         }
     }
     Ok(found)

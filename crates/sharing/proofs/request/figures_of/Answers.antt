@@ -4,8 +4,7 @@ use Rattle.sharing.proofs.request.figures_of.Goals as goal
 
 pub returns-in-Err : goal.returns-in-Err
 returns-in-Err c =
-    let f = first_bad string_bytes c.args.words.now c.loop-i.i c.loop-i-test.true c.index-words-i.result c.index-words-i.is c.as_bytes.result.now c.in-Err.e c.as_bytes.ensures.value c.in-Err.ensures.reads c.loop-i.invariant.1 in
-    rw c.at_word.ensures f
+    first_bad string_bytes c.args.words.now c.loop-i.i c.loop-i-test.true c.index-words-i.result c.index-words-i.is c.as_bytes.result.now c.in-Err.refusal c.as_bytes.ensures.value c.in-Err.ensures.reads c.loop-i.invariant.1
 
 pub loop-i-preserved : goal.loop-i-preserved
 loop-i-preserved c = words_more string_bytes c.args.words.now c.loop-i.i c.loop-i-test.true c.index-words-i.result c.index-words-i.is c.as_bytes.result.now c.in-Ok.figure (vec_items c.loop-i.found) (vec_items c.push.new.self) c.as_bytes.ensures.value c.in-Ok.ensures.reads c.in-Ok.ensures.written c.in_ok-push-in-Ok.ensures.items c.loop-i.invariant
