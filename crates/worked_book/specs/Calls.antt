@@ -44,7 +44,8 @@ PostsRanged places number posting cents =
 -- A bill, on sheets of three places that hold 0.
 abbrev pub BillsOn : Closed → List Customer → ℕ → List ℤ → Answer → List ℤ → Type 0
 BillsOn book customers letter charges r charges' =
-    (weights shares : List ℕ) × Bills (λ _. by_remainders) book customers letter (replicate 3 0) (replicate 3 0) charges r weights shares charges'
+    (weights shares : List ℕ) × Bills (λ _. by_remainders) book customers letter
+    (replicate 3 0) (replicate 3 0) charges r weights shares charges'
 
 -- Customers are entered, cost lines posted, pools billed, in turn.
 abbrev pub EntersAll : ℕ → List Figures → List Customer → Answer → List Customer → Type 0

@@ -7,7 +7,8 @@ abbrev pub Answer : Type 0
 Answer = Result (Unit {0}) Refusal
 
 -- A call, and where it is accepted the next one, with what the first returned; the refusal of either is that of both.
-pub data Then {X S : Type 0} (First : Result X Refusal → S → Type 0) (Next : X → S → Answer → S → Type 0) : Answer → S → Type 0 where
+pub data Then {X S : Type 0} (First : Result X Refusal → S → Type 0) (Next : X → S → Answer → S → Type 0)
+    : Answer → S → Type 0 where
   refused : {e : Refusal} {s : S} → First (Err e) s → Then First Next (Err e) s
   accepted : {x : X} {r : Answer} {s s' : S} → First (Ok x) s → Next x s r s' → Then First Next r s'
 
