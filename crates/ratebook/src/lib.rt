@@ -62,6 +62,7 @@ pub fn run<D: Divider + Drop, R: Source, W: Sink, E: Sink>(
     errors: &mut E,
 ) -> Result<ExitCode, Failure<R::Error, W::Error, E::Error>>
     ensures helps { is_some word.entry ≡ true → Helps word.entry result × Keeps (W.held output.old) (W.held output.new) }
+    ensures unread { is_some word.entry ≡ true → Keeps (R.left input.old) (R.left input.new) }
     ensures answers { word.entry ≡ None → Answers D.Divider.meaning divider (R.left input.old) (W.held output.old) (W.held output.new) (E.held errors.old) (E.held errors.new) result }
 {
     if word.is_some() {
