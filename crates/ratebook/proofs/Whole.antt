@@ -1,5 +1,5 @@
 -- A page that is read in part is answered as the whole of it: only one that is too long is.
-use Rattle.std.proofs.Common.{◌≡◌, ℕ, ◌+◌, ◌<◌, ◌≤◌, List, ◌++◌, length, take, drop, None, Some, IfSome, Option, Ok, Err, Result, refl, sym, ap, ◌∙◌, subst, ⊎_elim, arith, append-nil, take_at, length-take-le}
+use Rattle.std.proofs.Common.{◌≡◌, ℕ, ◌+◌, ◌<◌, ◌≤◌, List, ◌++◌, length, take, drop, None, Some, IfSome, Option, Ok, Err, Result, refl, sym, ap, ◌∙◌, subst, ⊎_elim, arith, append-nil, take_at, take_all, length-take-le}
 use Rattle.std.proofs.Math.Nat.{eq-or-lt_of_le}
 use Rattle.std.proofs.lemmas.List.{length-append}
 use Rattle.std.specs.Io.KnownBytes.{Consumes, IsAtEnd}
@@ -13,11 +13,24 @@ use Rattle.printing.specs.declared.printed.Printed.{Printed}
 use Rattle.printing.specs.Listings.{text, fault_of, Prints}
 use Rattle.ratebook.specs.Answers.{status_of, fault_status, Comes}
 
-module _ {D : Type 0} (m : D → Meaning) (d : D) where
-  status_is : (o : Result (Closed D) Fault) → fault_status (fault_of o) ≡ status_of o
-  status_is (Ok c) = refl
-  status_is (Err f) = refl
+-- A source that gave some bytes, all that it had or as many as were asked for, has lost what a page program takes.
+pub takes_page : (left left' : Option (List ℕ)) (n : ℕ) (memory : List ℕ) → length memory ≡ 65537 → n ≤ length memory → Consumes left left' (take n memory) → (n < length memory → IsAtEnd left') → IfSome left (λ page. Consumes left left' (take 65537 page))
+takes_page None left' n memory size fits lost end = tt
+takes_page (Some page) None n memory size fits lost end = absurd lost
+takes_page (Some page) (Some rest) n memory size fits lost end =
+    let read = take n memory in
+    let count : length read ≡ n = length-take-le n memory fits in
+    let all : length page ≡ length read + length rest = ap length lost ∙ length-append read rest in
+    ⊎_elim
+    (λ full. lost ∙ ap (λ t. t ++ rest) (sym (ap (take 65537) lost ∙ take_at read rest 65537 (count ∙ full ∙ size))))
+    (λ short.
+    let none : length rest ≡ 0 = ap length (end short) in
+    sym (append-nil page)
+    ∙ ap (λ t. page ++ t) (sym (end short))
+    ∙ ap (λ t. t ++ rest) (sym (take_all 65537 page (omega arith))))
+    (eq-or-lt_of_le fits)
 
+module _ {D : Type 0} (m : D → Meaning) (d : D) where
   -- What was printed is the text of what a page comes to, and by its fault one knows the status.
   abbrev pub PrintedAs : Printed → List ℕ → List ℕ → Result (Closed D) Fault → Type 0
   PrintedAs printed buffer' page o = (take printed.length buffer' ≡ text page o) × (fault_status printed.fault ≡ status_of o)
@@ -30,7 +43,7 @@ module _ {D : Type 0} (m : D → Meaning) (d : D) where
         comes = p.comes;
         only = p.only;
         adds_up = p.adds_up;
-        holds = (ap (take printed.length) p.after ∙ take_at shown (drop (length shown) buffer) printed.length (sym p.count), ap fault_status p.fault ∙ status_is p.outcome);
+        holds = (ap (take printed.length) p.after ∙ take_at shown (drop (length shown) buffer) printed.length (sym p.count), ap fault_status p.fault);
       }
 
   comes_longer : (read page buffer' : List ℕ) (printed : Printed) → 65536 < length read → 65536 < length page → Comes m d read (PrintedAs printed buffer' read) → Comes m d page (PrintedAs printed buffer' page)

@@ -1,13 +1,13 @@
 -- What a page program does: with its word, and with the page that its source has left.
-use Rattle.std.specs.Prelude.{◌≡◌, ℕ, Bool, false, List, Some, None, IfSome, Ok, Err, Result, Option, ⊤, codes, bytes_eq, if◌then◌else◌}
+use Rattle.std.specs.Prelude.{◌≡◌, ℕ, Bool, false, List, Some, None, IfSome, Ok, Err, Result, Option, ⊤, take, codes, bytes_eq, if◌then◌else◌}
 use Rattle.std.specs.Borrow.{Bor}
-use Rattle.std.specs.Io.KnownBytes.{Appends, Keeps}
+use Rattle.std.specs.Io.KnownBytes.{Appends, Keeps, Consumes}
 use Rattle.std.specs.Process.{exit_status}
 use Rattle.std.specs.declared.process.ExitCode.{ExitCode}
 use Rattle.book.specs.Rates.{Meaning}
 use Rattle.page.specs.declared.fault.Fault.{Fault}
 use Rattle.page.specs.Pages.{Closed, ComesTo, OnlyOutcome}
-use Rattle.printing.specs.Listings.{text, ListingAddsUp}
+use Rattle.printing.specs.Listings.{text, fault_of, ListingAddsUp}
 use Rattle.streams.specs.Written.{AppendsFront}
 use Rattle.streams.specs.declared.failure.Failure.{Failure}
 use Rattle.streams.specs.declared.failure.Failure.TheVariants.{Reading, Writing, Reporting}
@@ -17,15 +17,13 @@ abbrev pub asks_help : Option (Bor (List ℕ)) → Bool
 asks_help None = false
 asks_help (Some word) = bytes_eq word.now (codes "--help")
 
--- The status that a page program ends with: 0 for a listing, 1 for a fault.
-abbrev pub status_of : {D : Type 0} → Result (Closed D) Fault → ℕ
-status_of (Ok c) = 0
-status_of (Err f) = 1
-
--- The same, by the fault that is printed, if one is.
+-- The status that a page program ends with: 0 for a listing, 1 for the row of a fault.
 abbrev pub fault_status : Option Fault → ℕ
 fault_status None = 0
 fault_status (Some f) = 1
+
+abbrev pub status_of : {D : Type 0} → Result (Closed D) Fault → ℕ
+status_of o = fault_status (fault_of o)
 
 -- What a page comes to, and what holds of it.
 pub record Comes {D : Type 0} (m : D → Meaning) (d : D) (page : List ℕ) (P : Result (Closed D) Fault → Type 0) : Type 0 where
@@ -52,6 +50,12 @@ module _ {D R W E : Type 0} (m : D → Meaning) (d : D) where
       × Keeps said said'
   Answers left held held' said said' (Err (Reporting e)) =
       IfSome left (λ page. Comes m d page (λ o. Appends held held' (text page o) × (status_of o ≡ 1)))
+
+-- What a page program takes of its source: all that is left, or one byte more than a page may
+-- have where there is more. Of a source that fails nothing is said.
+abbrev pub TakesPage : {R W E : Type 0} → (left left' : Option (List ℕ)) → Result ExitCode (Failure R W E) → Type 0
+TakesPage left left' (Err (Reading e)) = ⊤
+TakesPage left left' r = IfSome left (λ page. Consumes left left' (take 65537 page))
 
 -- With a word the status says whether it asks for help, and only the sentence can fail.
 abbrev pub Helps : {R W E : Type 0} → Option (Bor (List ℕ)) → Result ExitCode (Failure R W E) → Type 0

@@ -1,7 +1,7 @@
 //! A page is read, and what it comes to is written.
 ghost use Rattle.std.specs.Prelude.{◌≡◌};
 ghost use Rattle.std.specs.Process.{exit_status};
-ghost use Rattle.ratebook.specs.Answers.{Answers, fault_status};
+ghost use Rattle.ratebook.specs.Answers.{Answers, TakesPage, fault_status};
 
 use crate::reading::read_page;
 use crate::sentence::Sentence;
@@ -32,6 +32,7 @@ fn answer_in<D: Divider + Drop, R: Source, W: Sink, E: Sink>(
     buffer: &mut [u8; ROOM],
 ) -> Result<ExitCode, Failure<R::Error, W::Error, E::Error>>
     ensures answers { Answers D.Divider.meaning divider (R.left input.old) (W.held output.old) (W.held output.new) (E.held errors.old) (E.held errors.new) result }
+    ensures taken { TakesPage (R.left input.old) (R.left input.new) result }
 {
     // A match at each, since `map_err` gets no proof where the error it makes names types that
     // only the result has.
@@ -64,6 +65,7 @@ pub(crate) fn answer_page<D: Divider + Drop, R: Source, W: Sink, E: Sink>(
     errors: &mut E,
 ) -> Result<ExitCode, Failure<R::Error, W::Error, E::Error>>
     ensures answers { Answers D.Divider.meaning divider (R.left input.old) (W.held output.old) (W.held output.new) (E.held errors.old) (E.held errors.new) result }
+    ensures taken { TakesPage (R.left input.old) (R.left input.new) result }
 {
     // Fixed memory and no Vec: what a page takes at most is known, and can't run
     // out. One byte more than a page may have shows that one is too long.

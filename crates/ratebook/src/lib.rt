@@ -4,7 +4,7 @@
 
 ghost use Rattle.std.specs.Prelude.{◌≡◌, true, None, is_some};
 ghost use Rattle.std.specs.Io.KnownBytes.{Keeps};
-ghost use Rattle.ratebook.specs.Answers.{Answers, Helps, asks_help};
+ghost use Rattle.ratebook.specs.Answers.{Answers, Helps, TakesPage, asks_help};
 
 mod answering;
 mod reading;
@@ -64,6 +64,7 @@ pub fn run<D: Divider + Drop, R: Source, W: Sink, E: Sink>(
     ensures helps { is_some word.entry ≡ true → Helps word.entry result × Keeps (W.held output.old) (W.held output.new) }
     ensures unread { is_some word.entry ≡ true → Keeps (R.left input.old) (R.left input.new) }
     ensures answers { word.entry ≡ None → Answers D.Divider.meaning divider (R.left input.old) (W.held output.old) (W.held output.new) (E.held errors.old) (E.held errors.new) result }
+    ensures taken { word.entry ≡ None → TakesPage (R.left input.old) (R.left input.new) result }
 {
     if word.is_some() {
         return help(name, word, errors);

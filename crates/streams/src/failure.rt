@@ -51,7 +51,7 @@ pub fn conclude<E: Write>(
         }
         Err(failure) => failure,
     };
-    // Where standard error fails too, there is no one left to tell.
+    // Where standard error fails too, there is nowhere left to report it.
     let _ = errors.writeln(format_args!("{name}: {failure}"));
     ExitCode::FAILURE
 }
