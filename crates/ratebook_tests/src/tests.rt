@@ -12,7 +12,7 @@ use std::alloc::{AllocError, Global};
 use std::io;
 use std::io::{ErrorKind, Read, Write};
 use std::process::{Abort, ExitCode};
-use streams::{Failure, conclude};
+use streams::{Failure, Sink, conclude};
 
 type Answer = Result<ExitCode, Failure<io::Error, io::Error, io::Error>>;
 
@@ -78,6 +78,23 @@ impl Write for Full<'_> {
         self.room[self.taken] = bytes[0];
         self.taken += 1;
         Ok(1)
+    }
+
+    fn flush(&mut self) -> io::Result<()> {
+        Ok(())
+    }
+}
+
+// Takes all of each call, and counts the calls.
+#[derive(Drop)]
+struct Counted {
+    calls: u64,
+}
+
+impl Write for Counted {
+    fn write(&mut self, bytes: &[u8]) -> io::Result<usize> {
+        self.calls = self.calls.wrapping_add(1);
+        Ok(bytes.len())
     }
 
     fn flush(&mut self) -> io::Result<()> {
@@ -327,6 +344,47 @@ fn stops_where_a_sentence_fails(rt: HostRuntime) {
     );
     assert!(rt; matches!(answer, Err(Failure::Reporting(_))));
     assert_eq!(rt; output.as_slice(), b"F,page,0,0,2\n".as_slice());
+}
+
+// A sentence, the words on how a program is used and a listing go out in one piece each.
+#[test]
+fn writes_in_one_piece(rt: HostRuntime) {
+    for (word, page, written, said) in [
+        (None, b"H,1".as_slice(), 1, 1),
+        (None, PAGE, 1, 0),
+        (Some("--help"), PAGE, 0, 1),
+    ] {
+        let (mut output, mut errors) = (Counted { calls: 0 }, Counted { calls: 0 });
+        let answer = run(
+            LargestRemainder,
+            "name",
+            word,
+            &mut &page[..],
+            &mut output,
+            &mut errors,
+        );
+        assert!(rt; answer.is_ok());
+        assert_eq!(rt; output.calls, written);
+        assert_eq!(rt; errors.calls, said);
+    }
+    let mut errors = Counted { calls: 0 };
+    let answer = Err(Failure::Reading(io::Error::from(ErrorKind::TimedOut)));
+    assert_eq!(rt; conclude("name", answer, &mut errors), ExitCode::FAILURE);
+    assert_eq!(rt; errors.calls, 1);
+}
+
+// A line of 1,024 bytes, with the one that ends it, is the longest that goes out in one piece.
+#[test]
+fn longest_line_in_one_piece(rt: HostRuntime) {
+    let line = [b'a'; 1024];
+    for (length, calls) in [(0, 1), (1023, 1), (1024, 2)] {
+        let mut errors = Counted { calls: 0 };
+        match str::from_utf8(&line[..length]) {
+            Ok(text) => assert!(rt; errors.write_line(text).is_ok()),
+            Err(_) => assert!(rt; false),
+        }
+        assert_eq!(rt; errors.calls, calls);
+    }
 }
 
 // The status and the words where the reader of the output has gone away.

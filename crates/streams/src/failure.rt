@@ -2,6 +2,7 @@
 ghost use Rattle.std.specs.Process.{exit_status};
 ghost use Rattle.streams.specs.Ending.{Concludes};
 
+use crate::sink::Sink;
 use std::error::Error;
 use std::fmt::{Debug, Display};
 use std::io::{ErrorKind, Write};
@@ -52,6 +53,6 @@ pub fn conclude<E: Write>(
         Err(failure) => failure,
     };
     // Where standard error fails too, there is nowhere left to report it.
-    let _ = errors.writeln(format_args!("{name}: {failure}"));
+    let _ = errors.write_line(format_args!("{name}: {failure}"));
     ExitCode::FAILURE
 }

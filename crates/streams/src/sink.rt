@@ -5,9 +5,12 @@ ghost use Rattle.std.specs.Io.KnownBytes.{Appends};
 ghost use Rattle.std.specs.IoError.{error_kind};
 ghost use Rattle.streams.specs.Written.{AppendsFront};
 
-use std::fmt::Display;
-use std::io;
+use std::fmt::{Display, InlineText};
 use std::io::{ErrorKind, Write};
+use std::{fmt, io};
+
+// How many bytes a line may have that goes out in one piece.
+const PIECE: usize = 1024;
 
 /// What takes bytes. Code over any sink can neither make an error of it nor let one go.
 pub trait Sink {
@@ -54,7 +57,13 @@ impl<W: Write> Sink for W {
         Err(io::Error::from(ErrorKind::TimedOut))
     }
 
+    // In one piece where it fits: of two programs that write to one file, a line of the one could
+    // stand within a line of the other otherwise.
     fn write_line<T: Display + Drop>(&mut self, text: T) -> io::Result<()> {
+        let mut line = InlineText::<PIECE>::new();
+        if fmt::Write::writeln(&mut line, &text).is_ok() {
+            return Write::write_all(self, line.as_str().as_bytes());
+        }
         self.writeln(text)
     }
 }
