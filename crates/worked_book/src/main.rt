@@ -176,22 +176,24 @@ fn bill_all(
     Ok(())
 }
 
-// Prints each customer with its charges.
+// Prints each customer with its charges, a row in one piece.
 fn print_all(
     rt: &HostRuntime,
     customers: &Register<'_, Customer>,
     charges: &[i64; 12],
 ) -> io::Result<()> {
-    for (i, customer) in customers.records().iter().enumerate() {
-        let above = customer.above_rhwm_load();
-        print!(rt;
-            "{},{},{},{above}",
-            customer.number, customer.mark, customer.rhwm
+    for (i, customer) in customers.records().iter().take(3).enumerate() {
+        println!(rt;
+            "{},{},{},{},{},{},{},{}",
+            customer.number,
+            customer.mark,
+            customer.rhwm,
+            customer.above_rhwm_load(),
+            charges[i],
+            charges[3 + i],
+            charges[6 + i],
+            charges[9 + i]
         )?;
-        for charge in charges.iter().skip(i).step_by(3) {
-            print!(rt; ",{charge}")?;
-        }
-        println!(rt; "")?;
     }
     Ok(())
 }
