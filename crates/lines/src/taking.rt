@@ -13,6 +13,7 @@ use units::{Letter, count};
 /// is left of the line. The fields before it pass.
 #[derive(Drop)]
 pub(crate) struct Fields<'a> {
+    // All of it, of which the ghost fields speak.
     line: &'a [u8],
     pub(crate) letter: Letter,
     place: usize,
@@ -22,6 +23,16 @@ pub(crate) struct Fields<'a> {
     ghost within: { place ≤ length (parted 44 line.now) + 1 },
     ghost left: { parts_after 44 rest ≡ drop (place - 1) (parted 44 line.now) },
     ghost clean: { first_fault letter (parted 44 line.now) 2 (place - 2) ≡ None },
+}
+
+// How many fields stand in what is left of a line.
+fn fields_in(rest: Option<&[u8]>) -> usize
+    ensures { result ≡ length (parts_after 44 rest.entry) }
+{
+    match rest {
+        Some(bytes) => rows::separators(bytes, b',') + 1,
+        None => 0,
+    }
 }
 
 impl<'a> Fields<'a> {
@@ -46,14 +57,17 @@ impl<'a> Fields<'a> {
         })
     }
 
-    // The fault of the next field, if the count of fields is right.
+    // The fault of the next field, if the count of fields is right. What stands after the field is
+    // counted, and no field is gone over again.
     #[cold]
-    fn fault(&self, refusal: Refusal) -> Fault
+    fn fault(&self, rest: Option<&[u8]>, refusal: Refusal) -> Fault
         requires few { self.now.place ≤ count self.now.letter }
+        requires rest { parts_after 44 rest ≡ drop self.now.place (all self.now) }
+        requires within { self.now.place ≤ length (all self.now) }
         requires fails { asked self.now.letter (all self.now) self.now.place ≡ Some refusal }
         ensures { Refuses self.now result }
     {
-        if rows::separators(self.line, b',') + 1 != count(self.letter) {
+        if fields_in(rest) != count(self.letter) - self.place {
             return Fault::of_line(Refusal::FieldCount);
         }
         Fault::at(self.place, refusal)
@@ -98,7 +112,7 @@ impl<'a> Fields<'a> {
                 self.pass(rest);
                 Ok(figure)
             }
-            Err(refusal) => Err(self.fault(refusal.into())),
+            Err(refusal) => Err(self.fault(rest, refusal.into())),
         }
     }
 
@@ -113,7 +127,7 @@ impl<'a> Fields<'a> {
                 self.pass(rest);
                 Ok(name)
             }
-            Err(refusal) => Err(self.fault(refusal)),
+            Err(refusal) => Err(self.fault(rest, refusal)),
         }
     }
 
@@ -128,7 +142,7 @@ impl<'a> Fields<'a> {
                 self.pass(rest);
                 Ok(pool)
             }
-            Err(refusal) => Err(self.fault(refusal)),
+            Err(refusal) => Err(self.fault(rest, refusal)),
         }
     }
 
@@ -145,7 +159,7 @@ impl<'a> Fields<'a> {
                 self.pass(rest);
                 Ok(pool)
             }
-            Err(refusal) => Err(self.fault(refusal)),
+            Err(refusal) => Err(self.fault(rest, refusal)),
         }
     }
 
