@@ -53,3 +53,13 @@ count_none p h (x ∷ xs) =
     let b : ◌≡◌ {A = ℕ} (cond (p x) 1 0) 0 = rw (h x) refl in
     let i = count_none p h xs in
     omega arith
+
+-- the count of a test over what a function makes of the list
+pub count_map : (p q : ℕ → Bool) (f : ℕ → ℕ) → ((x : ℕ) → p (f x) ≡ q x) → (xs : List ℕ) → count_by p (map f xs) ≡ count_by q xs
+count_map p q f h [] = refl
+count_map p q f h (x ∷ xs) =
+    let a = sum_by-cons (λ y. cond (p y) 1 0) (f x) (map f xs) in
+    let b = sum_by-cons (λ y. cond (q y) 1 0) x xs in
+    let e : ◌≡◌ {A = ℕ} (cond (p (f x)) 1 0) (cond (q x) 1 0) = ap (λ t. cond t 1 0) (h x) in
+    let i = count_map p q f h xs in
+    omega arith

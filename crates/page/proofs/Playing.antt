@@ -1,5 +1,5 @@
 -- One line after the other.
-use Rattle.std.proofs.Common.{◌≡◌, ℕ, ◌+◌, Bool, true, false, List, ◌∷◌, map, length, Ok, Err, Result, sym, refl, ap, ◌∙◌, subst, arith, Bor}
+use Rattle.std.proofs.Common.{◌≡◌, ℕ, ◌+◌, ◌≤◌, Bool, true, false, List, ◌∷◌, map, length, Ok, Err, Result, sym, refl, ap, ◌∙◌, subst, arith, Bor}
 use Rattle.records.specs.declared.customer.Customer.{Customer}
 use Rattle.records.specs.declared.cost_line.CostLine.{CostLine}
 use Rattle.book.specs.declared.figures.Figures.{Figures}
@@ -114,7 +114,7 @@ module _ (places places' : ℕ) (cs : List Customer) (n : ℕ) (lines : List (Li
       subst (λ d. Takes places cs n (map line_of lines) (Err d)) (sym (at ∙ ap (λ k. at_line k cause) f.number)) (subst (λ ps. Takes places cs n (map line_of ps) (Err (at_line n cause))) (sym f.parts) (take_refuses places cs n (map line_of lines') cs' (line_of first.1.now) cause (subst (λ a. LineEnters places cs (line_of first.1.now) a cs') is line)))
 
 -- no line is lost
-pub takes_counts : {places : ℕ} {cs : List Customer} {n : ℕ} {rs : List Reading} {t : Taken} → Takes places cs n rs (Ok t) → t.number + length t.rest ≡ n + length rs
-takes_counts no_more = refl
-takes_counts (enters e more) = omega (arith, takes_counts more)
-takes_counts (others k) = refl
+pub takes_counts : {places : ℕ} {cs : List Customer} {n : ℕ} {rs : List Reading} {t : Taken} → Takes places cs n rs (Ok t) → (n ≤ t.number) × (t.number + length t.rest ≡ n + length rs)
+takes_counts no_more = (omega arith, refl)
+takes_counts (enters e more) = let m = takes_counts more in (omega (arith, m.0), omega (arith, m.1))
+takes_counts (others k) = (omega arith, refl)

@@ -1,5 +1,5 @@
 -- A register after a change, from what its memory and its count are then.
-use Rattle.std.proofs.Common.{◌≡◌, ℕ, ◌+◌, ◌-◌, ◌<◌, ◌≤◌, min, Bool, false, eqb, List, ◌++◌, length, get_or, set, take, drop, is_some, Some, None, Option, sym, refl, ap, ◌∙◌, arith}
+use Rattle.std.proofs.Common.{◌≡◌, ℕ, ◌+◌, ◌-◌, ◌<◌, ◌≤◌, min, Bool, false, eqb, List, ◌++◌, length, get_or, set, take, drop, is_some, is_ok, Some, None, Ok, Err, Option, Result, sym, refl, ap, ◌∙◌, arith}
 use Rattle.std.proofs.lemmas.List.{length-append, length-drop, length-take, length-set, get_or-take, take_at, drop_at, take-append-drop}
 use Rattle.std.proofs.lemmas.Bool.{eqb-false}
 use Rattle.std.specs.List.{insert, remove}
@@ -8,9 +8,20 @@ use Rattle.register.proofs.Found.{inserted-place_for, removed-place_of, lookup-p
 use Rattle.register.proofs.Lookups.{length-added, length_without}
 use Rattle.register.specs.Records.{lookup, added, without, place_of, place_for}
 use Rattle.register.specs.Records.{usable}
-use Rattle.register.specs.Register.{memory, room, count, records, laid, Kept}
+use Rattle.register.specs.Register.{memory, room, count, records, laid, Sought, Kept}
 use Rattle.register.specs.declared.Keyed.{Ghosts}
 use Rattle.register.specs.declared.Register.{Register}
+use Rattle.register.specs.declared.refusal.Refusal.{Refusal}
+
+module _ {R : Type 0} where
+  -- a record is there exactly where the answer is Ok
+  pub sought_ok : (o : Option R) (r : Result R Refusal) → Sought o r → is_some o ≡ is_ok r
+  sought_ok o (Ok x) h = ap is_some h
+  sought_ok o (Err e) h = ap is_some h.0
+
+  pub none_there : (o : Option R) → is_some o ≡ false → o ≡ None
+  none_there None h = refl
+  none_there (Some x) h = grind arith
 
 module _ {R : Type 0} {k : Ghosts R} where
   pub length-records : (reg : Register R k) → length (records reg) ≡ count reg

@@ -1,7 +1,8 @@
 -- The shares by running sums are fair.
-use Rattle.std.specs.Prelude.{◌≡◌, ℕ, zero, suc, ◌+◌, ◌-◌, ◌*◌, ◌/◌, ◌<◌, ◌≤◌, List, [], ◌∷◌, length, sum, slice_index, refl}
+use Rattle.std.specs.Prelude.{◌≡◌, ℕ, zero, suc, ◌+◌, ◌-◌, ◌*◌, ◌/◌, ◌<◌, ◌≤◌, List, [], ◌∷◌, ◌++◌, length, take, drop, sum, slice_index, slice_set, refl}
 use Rattle.std.proofs.Common.{ap, inl, inr, ⊎_elim, mul-add, mul-div_cancel, zero-add, mul-zero, arith}
-use Rattle.std.proofs.lemmas.List.Sums.{sum_by-cons}
+use Rattle.std.proofs.lemmas.List.Sums.{sum_by-cons, sum_by_more, sum_by-take-le}
+use Rattle.std.proofs.lemmas.List.{take_more_set, at_drop_more, append_assoc}
 use Rattle.divider.specs.Questions.{Passes}
 use Rattle.divider.specs.Shares.{Near, Fair}
 use Rattle.running.specs.Running.{running_from, by_running}
@@ -44,3 +45,19 @@ running_fair t ws p = record {
       omega arith;
   near = λ k l. running_near t (sum ws) 0 ws k p.some l;
 }
+
+-- one turn of the loop that writes them
+pub running_more : (t s b x : ℕ) (ws old xs : List ℕ) (i : ℕ) → i < length ws → length old ≡ length ws → x ≡ t * (b + slice_index ws i) / s - t * b / s → take i old ++ running_from t s b (drop i ws) ≡ xs → take (i + 1) (slice_set old i x) ++ running_from t s (b + slice_index ws i) (drop (i + 1) ws) ≡ xs
+running_more t s b x ws old xs i h l e inv =
+    let h' : i < length old = omega arith in
+    let a = take_more_set old i x h' in
+    let d : running_from t s b (drop i ws) ≡ (t * (b + slice_index ws i) / s - t * b / s) ∷ running_from t s (b + slice_index ws i) (drop (i + 1) ws) = at_drop_more (running_from t s b) ws i 0 h in
+    let q = append_assoc (take i old) (x ∷ []) (running_from t s (b + slice_index ws i) (drop (i + 1) ws)) in
+    cc
+
+-- the sum of the weights that came, and with the next
+pub front_sum : (ws : List ℕ) (i b : ℕ) → i < length ws → b ≡ sum (take i ws) → (b + slice_index ws i ≡ sum (take (i + 1) ws)) × (b + slice_index ws i ≤ sum ws)
+front_sum ws i b h e =
+    let m = sum_by_more (λ x. x) ws i 0 h in
+    let l = sum_by-take-le (λ x. x) ws (i + 1) in
+    (omega arith, omega arith)

@@ -14,6 +14,7 @@ use divider::{Divider, Refusal, weigh};
 use largest::LargestRemainder;
 use running::RunningSums;
 use std::alloc::{AllocError, AllocFailed, Global};
+use std::fmt;
 
 mod fault;
 mod request;
@@ -58,6 +59,14 @@ impl<T: Drop> From<AllocFailed<T>> for Fault {
     ghost from_gives = { λ e f. f ≡ NoMemory };
 
     fn from(_e: AllocFailed<T>) -> Fault {
+        Fault::NoMemory
+    }
+}
+
+impl From<fmt::Error> for Fault {
+    ghost from_gives = { λ e f. f ≡ NoMemory };
+
+    fn from(_e: fmt::Error) -> Fault {
         Fault::NoMemory
     }
 }

@@ -64,5 +64,5 @@ returns g c =
     (λ x is. ends c.in_ok-lines.ensures founds plays (subst (λ r. Settles g.D.Divider.meaning c.act_all.new.book (records c.act_all.new.customers) c.args.charges.now r (records c.settle.new.customers) c.settle.new.charges) is c.settle.ensures))
     (λ e f is q.
     let at : f ≡ at_line c.in_ok-last.last (Book e) = search rules in
-    let last : c.in_ok-last.last ≡ length (map line_of (parts_after 10 c.args.rest)) + 1 = omega (arith, takes_counts c.in_ok-lines.ensures, c.in_ok-last.ensures.last) in
+    let last : c.in_ok-last.last ≡ length (map line_of (parts_after 10 c.args.rest)) + 1 = omega (arith, (takes_counts c.in_ok-lines.ensures).1, c.in_ok-last.ensures.last) in
     at_fault (at ∙ ap (λ n. at_line n (Book e)) last) (ends_refused c.in_ok-lines.ensures founds plays (subst (λ r. Settles g.D.Divider.meaning c.act_all.new.book (records c.act_all.new.customers) c.args.charges.now r (records c.settle.new.customers) c.settle.new.charges) is c.settle.ensures)))
