@@ -4,6 +4,7 @@
 #[cfg(test)]
 mod tests {
     use largest::LargestRemainder;
+    use page::bill_page;
     use printing::{ROOM, print_page};
     use std::process::Abort;
 
@@ -27,6 +28,23 @@ mod tests {
     // A page is refused with this row.
     fn refused(rt: &impl Abort, page: &[u8], row: &[u8]) {
         prints(rt, page, row, true);
+    }
+
+    #[test]
+    fn bills_the_worked_page(rt: HostRuntime) {
+        match bill_page(LargestRemainder, WORKED) {
+            Ok(billed) => {
+                assert_eq!(rt; billed.standing, 3);
+                assert_eq!(rt; billed.customers[0].mark, 51);
+                assert_eq!(rt; billed.customers[1].rhwm, 29);
+                assert_eq!(rt; billed.customers[2].mark, 20);
+                assert_eq!(rt; billed.charges[0], 479);
+                assert_eq!(rt; billed.charges[4], 5);
+                assert_eq!(rt; billed.charges[11], 23);
+                assert_eq!(rt; billed.charges[12], 0);
+            }
+            Err(_) => assert!(rt; false),
+        }
     }
 
     #[test]
