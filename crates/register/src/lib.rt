@@ -14,7 +14,6 @@ mod refusal;
 mod slices;
 
 pub use refusal::Refusal;
-use std::mem;
 
 /// The most places that a register uses of its memory.
 pub const PLACES: usize = 512;
@@ -166,8 +165,7 @@ impl<'a, R: Keyed> Register<'a, R> {
         ensures kept { Kept self.old self.new }
     {
         let at = self.find(row.number())?;
-        let places = &mut *self.places;
-        Ok(mem::replace(&mut places[at], row))
+        Ok(slices::put(self.places, at, row))
     }
 
     /// Puts a record in the place of the one at `at` in the order, and gives that one back.
@@ -183,10 +181,7 @@ impl<'a, R: Keyed> Register<'a, R> {
     {
         let number = row.number();
         match self.records().get(at) {
-            Some(old) if old.number() == number => {
-                let places = &mut *self.places;
-                Ok(mem::replace(&mut places[at], row))
-            }
+            Some(old) if old.number() == number => Ok(slices::put(self.places, at, row)),
             _ => Err(Refusal::Missing),
         }
     }

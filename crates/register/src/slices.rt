@@ -1,5 +1,5 @@
 //! Searches among records in a slice, and shifts of them.
-ghost use Rattle.std.specs.Prelude.{◌≡◌, ◌<◌, ◌≤◌, length, take, slice_index_or};
+ghost use Rattle.std.specs.Prelude.{◌≡◌, ◌<◌, ◌≤◌, length, take, slice_index_or, slice_set};
 ghost use Rattle.std.specs.List.{insert, remove};
 ghost use Rattle.register.specs.Records.{rising_front, InOrder, Located};
 ghost use Rattle.register.specs.Register.{laid};
@@ -48,5 +48,16 @@ pub(crate) fn remove_at<R: Copy>(memory: &mut [R], standing: usize, at: usize) -
 {
     let old = memory[at];
     memory.copy_within(at + 1..standing, at);
+    old
+}
+
+/// Puts `row` in the place of the record at `place`, and returns that one.
+pub(crate) fn put<R: Copy>(memory: &mut [R], place: usize, row: R) -> R
+    requires { place < length memory.old }
+    ensures old { result ≡ slice_index_or memory.old place result }
+    ensures after { memory.new ≡ slice_set memory.old place row }
+{
+    let old = memory[place];
+    memory[place] = row;
     old
 }

@@ -21,7 +21,7 @@ invariant_of-self g c =
     let there = c.in_ok-at.ensures in
     let place : at ≡ place_of key (key row) rs = rw (← c.number.ensures) there.0 in
     let put = put_over before at row (replaced key row rs) there.1 (ap (λ (i : ℕ). set rs i row) place ∙ set-place_of key row rs) in
-    let new : set (memory before) at c.replace.new.dest ≡ laid (replaced key row rs) (memory before) = ap (set (memory before) at) c.replace.ensures.after ∙ put.0 in
+    let new : c.put.new.memory ≡ laid (replaced key row rs) (memory before) = c.put.ensures.after ∙ put.0 in
     record { rising = subst (InOrder key) (sym (records_changed before _ before.standing (replaced key row rs) new put.1)) (ordered_replaced key row rs before.rising) }
 
 pub returns : goal.returns
@@ -34,9 +34,9 @@ returns g c =
     let there = c.in_ok-at.ensures in
     let place : at ≡ place_of key (key row) rs = rw (← c.number.ensures) there.0 in
     let put = put_over before at row (replaced key row rs) there.1 (ap (λ (i : ℕ). set rs i row) place ∙ set-place_of key row rs) in
-    let new : set (memory before) at c.replace.new.dest ≡ laid (replaced key row rs) (memory before) = ap (set (memory before) at) c.replace.ensures.after ∙ put.0 in
+    let new : c.put.new.memory ≡ laid (replaced key row rs) (memory before) = c.put.ensures.after ∙ put.0 in
     record {
-      answer = lookup-place_of key (key row) at c.replace.result rs place there.1 (read_record before at c.replace.result there.1 (cc));
+      answer = lookup-place_of key (key row) at c.put.result rs place there.1 (read_record before at c.put.result there.1 c.put.ensures.old);
       records = records_changed before _ before.standing (replaced key row rs) new put.1;
       untouched = tt;
       kept = kept_changed before _ (replaced key row rs) new put.1 refl;

@@ -1,4 +1,4 @@
-use Rattle.std.proofs.Common.{◌≡◌, ◌<◌, get_or, length, set, None, sym, refl, ap, subst, ◌∙◌, arith}
+use Rattle.std.proofs.Common.{◌≡◌, ◌<◌, get_or, length, None, sym, refl, ap, subst, ◌∙◌, arith}
 use Rattle.register.specs.Records.{lookup_at, replaced_at, InOrder}
 use Rattle.register.specs.Register.{memory, records, laid}
 use Rattle.register.proofs.Change.{kept_same, put_over, read_record, records_changed, kept_changed}
@@ -37,12 +37,12 @@ invariant_of-self g c =
     let at = c.args.at in
     let stands = c.in-Some.ensures in
     let lt : at < length rs = omega (arith, ap length c.records.ensures, stands.lookup.3.0) in
-    let old = c.replace.result in
-    let is : old ≡ get_or rs at old = read_record before at old lt (cc) in
+    let old = c.put.result in
+    let is : old ≡ get_or rs at old = read_record before at old lt c.put.ensures.old in
     let seen : c.in-Some.old.now ≡ get_or rs at old = rw (← c.records.ensures) (stands.lookup.3.1 old) in
     let number : key old ≡ key row = ap key (is ∙ sym seen) ∙ sym c.number.ensures ∙ c.if-number.true ∙ c.number-number.ensures in
     let put = put_over before at row (replaced_at key at row rs) lt (sym (replaced_at-set key at row old rs lt is number)) in
-    let new : set (memory before) at c.replace.new.dest ≡ laid (replaced_at key at row rs) (memory before) = ap (set (memory before) at) c.replace.ensures.after ∙ put.0 in
+    let new : c.put.new.memory ≡ laid (replaced_at key at row rs) (memory before) = c.put.ensures.after ∙ put.0 in
     record { rising = subst (InOrder key) (sym (records_changed before _ before.standing (replaced_at key at row rs) new put.1)) (ordered_replaced_at key at row rs before.rising) }
 
 pub returns-in-Some : goal.returns-in-Some
@@ -54,12 +54,12 @@ returns-in-Some g c =
     let at = c.args.at in
     let stands = c.in-Some.ensures in
     let lt : at < length rs = omega (arith, ap length c.records.ensures, stands.lookup.3.0) in
-    let old = c.replace.result in
-    let is : old ≡ get_or rs at old = read_record before at old lt (cc) in
+    let old = c.put.result in
+    let is : old ≡ get_or rs at old = read_record before at old lt c.put.ensures.old in
     let seen : c.in-Some.old.now ≡ get_or rs at old = rw (← c.records.ensures) (stands.lookup.3.1 old) in
     let number : key old ≡ key row = ap key (is ∙ sym seen) ∙ sym c.number.ensures ∙ c.if-number.true ∙ c.number-number.ensures in
     let put = put_over before at row (replaced_at key at row rs) lt (sym (replaced_at-set key at row old rs lt is number)) in
-    let new : set (memory before) at c.replace.new.dest ≡ laid (replaced_at key at row rs) (memory before) = ap (set (memory before) at) c.replace.ensures.after ∙ put.0 in
+    let new : c.put.new.memory ≡ laid (replaced_at key at row rs) (memory before) = c.put.ensures.after ∙ put.0 in
     record {
       answer = lookup_at_read key at (key row) old rs lt is number;
       records = records_changed before _ before.standing (replaced_at key at row rs) new put.1;
