@@ -57,6 +57,7 @@ pub(crate) fn put<R: Copy>(memory: &mut [R], place: usize, row: R) -> R
     ensures old { result ≡ slice_index_or memory.old place result }
     ensures after { memory.new ≡ slice_set memory.old place row }
 {
+    // Not `mem::replace`, so that a must-fail edit can change the place of the write alone.
     let old = memory[place];
     memory[place] = row;
     old
